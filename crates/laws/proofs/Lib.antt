@@ -1,0 +1,3 @@
+pub mod Branches
+pub mod Lists
+pub mod Cuts

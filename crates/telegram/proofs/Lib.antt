@@ -1,0 +1,4 @@
+pub mod Bytes
+pub mod RoundTrip
+pub mod Cut
+pub mod Worked

@@ -1,0 +1,176 @@
+-- Reading what is written gives it back, for every kind and every value of its fields; and how long it is.
+use Prim.Native.Nat.{ℕ, suc, _+_, _-_, _*_, min, _/_, _%_, _≤_, _<_}
+use native.Mathlib.Nat.{mod-lt, mod-eq-of-lt, div-eq-of-lt}
+use native.Mathlib.Omega.{arith}
+use mathlib.Core.Bool.{Bool, true, false}
+use mathlib.Core.List.{List, [], _∷_}
+use mathlib.Core.Path.{_≡_, refl, ap, _∙_}
+use lib.Dec.{eqb}
+use lib.ListN.{length, take, drop, getD, replicate, length-append, length-take, length-drop}
+use lib.Seq.{take-take, take-append-seam}
+use borrow.Author.Tests.{lt-ltb, le-leb, eq-eqb}
+use Rattle.telegram.specs.Outgoing.{written, sent}
+use Rattle.telegram.specs.Opening.{lowOf, highOf, idOf, clear, requestOf, replyOf, requestRead, replyRead, refusal}
+use Rattle.telegram.specs.Kinds.{kindOf, sorted, ackOf, testOf, disconnectOf, setupOf, acceptOf}
+use Rattle.telegram.specs.Cutting.{declaredOf, streamOf, framesOf, headerOf, lastAt, asksAt, frameAt}
+use Rattle.telegram.specs.declared.opening.Reply.the-variants.{Positive, Refused}
+use Rattle.telegram.specs.declared.opening.Request.the-variants.{Open}
+use Rattle.telegram.specs.declared.kinds.Parameters.{Parameters}
+use Rattle.telegram.specs.declared.kinds.Telegram.the-variants.{Data, Ack, Test, Disconnect, Setup, Accept}
+
+-- written
+
+-- at most eight bytes reach the bus as they were written
+pub written-sent : (s : List ℕ) → length s ≤ 8 → sent (written s) ≡ s
+written-sent s h = take-take (length s) 8 _ h ∙ take-append-seam s (replicate 8 0)
+
+-- whatever is written, the eight bytes are eight
+pub written-bytes : (s : List ℕ) → length ((written s) .bytes) ≡ 8
+written-bytes s = simp (length-take, length-append) (omega arith)
+
+-- the opening
+
+-- an ID's high byte has no bit beside the ID's
+high-clear : (i : ℕ) → clear (highOf i) ≡ true
+high-clear i = lt-ltb _ _ (mod-lt (i / 256) (omega arith))
+
+-- an ID of eleven bits is that of its two bytes
+id-joined : (i : ℕ) → i < 2048 → idOf (lowOf i) (highOf i) ≡ i
+id-joined i h = let e : i / 256 % 8 ≡ i / 256 = mod-eq-of-lt (omega arith) in omega arith
+
+-- a request, read, names the unit and the receive ID that it was written for
+pub request-read : (u r : ℕ) → r < 2048 → requestRead (sent (requestOf u r)) ≡ Open u r
+unfolding requestRead
+request-read u r h = rw (high-clear r) (ap (Open u) (id-joined r h))
+
+-- a positive reply, read by the end that asked, names the transmit ID that it was written for
+pub positive-read : (r t : ℕ) → r < 2048 → t < 2048 → replyRead (sent (replyOf 0xD0 r t)) r ≡ Positive t
+unfolding replyRead
+positive-read r t h k = rw (high-clear r, eq-eqb _ _ (id-joined r h), high-clear t) (ap Positive (id-joined t k))
+
+-- a refusal, read, names its opcode, whatever IDs stand in it and whoever reads it
+pub refused-read : (op r t own : ℕ) → refusal op ≡ true → replyRead (sent (replyOf op r t)) own ≡ Refused op
+unfolding replyRead
+refused-read op r t own h = rw h
+
+-- requests and replies have seven bytes
+pub opening-length : (u r op t : ℕ) → (length (sent (requestOf u r)) ≡ 7) × (length (sent (replyOf op r t)) ≡ 7)
+opening-length u r op t = (refl, refl)
+
+-- the kinds
+
+-- the bits of a byte b with the upper half q and the lower half r
+record Halves (q r b : ℕ) : Type 0 where
+  bits7-6 : b / 64 ≡ q / 4
+  bits7-5 : b / 32 ≡ q / 2
+  bits7-4 : b / 16 ≡ q
+  bits3-0 : b % 16 ≡ r
+
+halves : (q r : ℕ) → r < 16 → Halves q r (16 * q + r)
+halves q r h = omega arith
+
+-- one byte with the upper half 1 0 RS 1 is an Ack
+upper-ack : (q r : ℕ) → q / 4 ≡ 2 → q % 2 ≡ 1 → r < 16 → sorted ((16 * q + r) ∷ []) ≡ record { kind = Ack (eqb (q / 2 % 2) 1) r }
+unfolding kindOf
+upper-ack q r f g h =
+    let b = halves q r h in
+    rw (b .bits7-6 ∙ f, b .bits7-4, g, b .bits7-5, b .bits3-0)
+
+-- an Ack is sorted as an Ack that says the same, ready or not, and the same number
+pub ack-sorted : (ready : Bool) (n : ℕ) → n < 16 → sorted (sent (ackOf ready n)) ≡ record { kind = Ack ready n }
+ack-sorted true n h = rw (mod-eq-of-lt h) (upper-ack 11 n refl refl h)
+ack-sorted false n h = rw (mod-eq-of-lt h) (upper-ack 9 n refl refl h)
+
+-- a test is sorted as a test
+pub test-sorted : sorted (sent testOf) ≡ record { kind = Test }
+unfolding kindOf
+test-sorted = refl
+
+-- a disconnect is sorted as a disconnect
+pub disconnect-sorted : sorted (sent disconnectOf) ≡ record { kind = Disconnect }
+unfolding kindOf
+disconnect-sorted = refl
+
+-- an A0 is sorted as an A0 with the same fields, whatever they are
+pub setup-sorted : (p : Parameters) → sorted (sent (setupOf p)) ≡ record { kind = Setup p }
+unfolding kindOf
+setup-sorted p = refl
+
+-- an A1 is sorted as an A1 with the same fields, whatever they are
+pub accept-sorted : (p : Parameters) → sorted (sent (acceptOf p)) ≡ record { kind = Accept p }
+unfolding kindOf
+accept-sorted p = refl
+
+-- Ack, test and disconnect have one byte
+pub single-length : (ready : Bool) (n : ℕ) → (length (sent (ackOf ready n)) ≡ 1) × (length (sent testOf) ≡ 1) × (length (sent disconnectOf) ≡ 1)
+single-length ready n = (refl, refl, refl)
+
+-- A0 and A1 have six bytes
+pub parameters-length : (p : Parameters) → (length (sent (setupOf p)) ≡ 6) × (length (sent (acceptOf p)) ≡ 6)
+parameters-length p = (refl, refl)
+
+-- data
+
+-- a first byte with the upper half 00 AR EOM, before one to seven others, makes data
+upper-data : (q r : ℕ) (p : List ℕ) → q < 4 → r < 16 → 1 ≤ length p → length p ≤ 7
+    → sorted ((16 * q + r) ∷ p) ≡ record { kind = Data (eqb (q / 2 % 2) 0) (eqb (q % 2) 1) r }
+unfolding kindOf
+upper-data q r p f g h k =
+    let b = halves q r g in
+    rw (b .bits7-6 ∙ div-eq-of-lt f, le-leb 2 (suc (length p)) (omega arith), le-leb (suc (length p)) 8 (omega arith), b .bits7-5, b .bits7-4, b .bits3-0)
+
+-- a first byte before one to seven others is sorted as data that says the same
+header-sorted : (asks last : Bool) (n : ℕ) (p : List ℕ) → 1 ≤ length p → length p ≤ 7
+    → sorted (headerOf asks last n ∷ p) ≡ record { kind = Data asks last (n % 16) }
+unfolding headerOf
+header-sorted true true n p = upper-data 1 (n % 16) p (omega arith) (omega arith)
+header-sorted true false n p = upper-data 0 (n % 16) p (omega arith) (omega arith)
+header-sorted false true n p = upper-data 3 (n % 16) p (omega arith) (omega arith)
+header-sorted false false n p = upper-data 2 (n % 16) p (omega arith) (omega arith)
+
+module _ (m : List ℕ) (block first k : ℕ) where
+  -- a frame reaches the bus as its first byte and its seven of the stream
+  pub frame-sent : sent (frameAt m block first k) ≡ headerOf (asksAt block (length m) k) (lastAt (length m) k) (first + k) ∷ take 7 (drop (7 * k) (streamOf m))
+  unfolding frameAt
+  frame-sent = written-sent _ (simp length-take (omega arith))
+
+  -- behind its first byte stand its seven of the stream
+  pub frame-carries : drop 1 (sent (frameAt m block first k)) ≡ take 7 (drop (7 * k) (streamOf m))
+  frame-carries = ap (drop 1) frame-sent
+
+  -- the eight bytes of a frame are eight
+  pub frame-bytes : length ((frameAt m block first k) .bytes) ≡ 8
+  unfolding frameAt
+  frame-bytes = rw written-bytes
+
+  -- a frame has its first byte and at most seven of what is left of the stream
+  pub frame-length : length (sent (frameAt m block first k)) ≡ 1 + min 7 (length m + 2 - 7 * k)
+  unfolding streamOf
+  frame-length = rw frame-sent (simp (length-take, length-drop) (omega arith))
+
+  -- every frame but the last has eight bytes
+  pub frame-full : k + 1 < framesOf (length m) → length (sent (frameAt m block first k)) ≡ 8
+  unfolding framesOf
+  frame-full h = rw frame-length (omega arith)
+
+  -- every frame has two to eight bytes
+  pub frame-size : k < framesOf (length m) → (2 ≤ length (sent (frameAt m block first k))) × (length (sent (frameAt m block first k)) ≤ 8)
+  unfolding framesOf
+  frame-size h = rw frame-length (omega arith)
+
+  -- every frame is sorted as data that asks and ends as its place says, with the number that its place says
+  pub frame-sorted : k < framesOf (length m)
+      → sorted (sent (frameAt m block first k)) ≡ record { kind = Data (asksAt block (length m) k) (lastAt (length m) k) ((first + k) % 16) }
+  frame-sorted h =
+      let b = rw frame-sent at (frame-size h) in
+      rw frame-sent (header-sorted _ _ (first + k) _ (omega arith) (omega arith))
+
+-- the first two bytes of the stream declare the length of any message that two bytes can tell
+pub stream-declares : (m : List ℕ) → length m < 65536 → declaredOf (getD (streamOf m) 0 0) (getD (streamOf m) 1 0) ≡ length m
+unfolding streamOf
+stream-declares m h = let e : length m / 256 % 256 ≡ length m / 256 = mod-eq-of-lt (omega arith) in omega arith
+
+-- behind them stands the message
+pub stream-carries : (m : List ℕ) → drop 2 (streamOf m) ≡ m
+unfolding streamOf
+stream-carries m = refl

@@ -1,0 +1,7 @@
+pub mod Time
+pub mod Outgoing
+pub mod Opening
+pub mod Kinds
+pub mod Cutting
+pub mod Published
+pub mod Worked

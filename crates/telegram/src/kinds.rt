@@ -1,0 +1,146 @@
+// Telegrams on a channel: the kinds, how a telegram is sorted into one, and the writers.
+ghost use mathlib.Core.Path.{_≡_};
+ghost use Rattle.telegram.specs.Kinds.{sorted, ackOf, testOf, disconnectOf, setupOf, acceptOf};
+use crate::payload::Payload;
+
+// What an A0 (connection set-up) and an A1 (connection acknowledge) carry: the block size byte and two time codes.
+pub struct Parameters {
+    pub block: u8,
+    pub t1: u8,
+    pub t3: u8,
+}
+
+// A telegram's kind. The bytes that a data telegram carries stay in the slice, from its second byte on.
+pub enum Telegram {
+    Data { asks: bool, last: bool, number: u8 },
+    Ack { ready: bool, number: u8 },
+    Test,
+    Break,
+    Disconnect,
+    Setup(Parameters),
+    Accept(Parameters),
+    Malformed,
+}
+
+pub struct Sorted {
+    pub kind: Telegram,
+}
+
+// Sorts a telegram of any length into its kind.
+pub fn sort(s: &[u8]) -> Sorted
+    ensures { λ r. ⌜ r ≡ sorted (now (s .entry)) ⌝ }
+{
+    Sorted { kind: kind(s) }
+}
+
+fn kind(s: &[u8]) -> Telegram
+    ensures { λ r. ⌜ r ≡ (sorted (now (s .entry))) .kind ⌝ }
+{
+    let n = s.len();
+    if n == 0 {
+        return Telegram::Malformed;
+    }
+    let b = s[0];
+    if b / 64 == 0 {
+        if n < 2 {
+            return Telegram::Malformed;
+        }
+        if 8 < n {
+            return Telegram::Malformed;
+        }
+        return Telegram::Data {
+            asks: b / 32 % 2 == 0,
+            last: b / 16 % 2 == 1,
+            number: b % 16,
+        };
+    }
+    if n == 1 {
+        if b == 0xA3 {
+            return Telegram::Test;
+        }
+        if b == 0xA4 {
+            return Telegram::Break;
+        }
+        if b == 0xA8 {
+            return Telegram::Disconnect;
+        }
+        if b / 64 != 2 {
+            return Telegram::Malformed;
+        }
+        if b / 16 % 2 != 1 {
+            return Telegram::Malformed;
+        }
+        return Telegram::Ack {
+            ready: b / 32 % 2 == 1,
+            number: b % 16,
+        };
+    }
+    if n != 6 {
+        return Telegram::Malformed;
+    }
+    let p = Parameters {
+        block: s[1],
+        t1: s[2],
+        t3: s[4],
+    };
+    if b == 0xA0 {
+        return Telegram::Setup(p);
+    }
+    if b == 0xA1 {
+        return Telegram::Accept(p);
+    }
+    Telegram::Malformed
+}
+
+pub fn write_ack(ready: bool, number: u8) -> Payload
+    ensures { λ r. ⌜ r ≡ ackOf ready number ⌝ }
+{
+    if ready {
+        return Payload {
+            len: 1,
+            bytes: [0xB0 + number % 16, 0, 0, 0, 0, 0, 0, 0],
+        };
+    }
+    Payload {
+        len: 1,
+        bytes: [0x90 + number % 16, 0, 0, 0, 0, 0, 0, 0],
+    }
+}
+
+pub fn write_test() -> Payload
+    ensures { λ r. ⌜ r ≡ testOf ⌝ }
+{
+    Payload {
+        len: 1,
+        bytes: [0xA3, 0, 0, 0, 0, 0, 0, 0],
+    }
+}
+
+pub fn write_disconnect() -> Payload
+    ensures { λ r. ⌜ r ≡ disconnectOf ⌝ }
+{
+    Payload {
+        len: 1,
+        bytes: [0xA8, 0, 0, 0, 0, 0, 0, 0],
+    }
+}
+
+// An A0.
+pub fn write_setup(p: Parameters) -> Payload
+    ensures { λ r. ⌜ r ≡ setupOf p ⌝ }
+{
+    Payload {
+        len: 6,
+        bytes: [0xA0, p.block, p.t1, 0xFF, p.t3, 0xFF, 0, 0],
+    }
+}
+
+// An A1.
+pub fn write_accept(p: Parameters) -> Payload
+    ensures { λ r. ⌜ r ≡ acceptOf p ⌝ }
+{
+    Payload {
+        len: 6,
+        bytes: [0xA1, p.block, p.t1, 0xFF, p.t3, 0xFF, 0, 0],
+    }
+}
