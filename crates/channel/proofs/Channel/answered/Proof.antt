@@ -1,0 +1,15 @@
+use borrow.Author.Needs.{needs}
+use Rattle.laws.proofs.Branches.{branches}
+use Rattle.channel.specs.Opened.{answered}
+use Rattle.channel.proofs.Channel.answered.Statement.{statement}
+use Rattle.channel.proofs.Channel.answered.Tie as tie
+
+pub answered-spec : {M : Type 1} → statement M
+unfolding answered
+answered-spec =
+    tie.close
+    (tie.spec
+    (λ c κs. search needs)
+    (λ c κs. search needs)
+    (λ c. rw (c .restarted .ensures, ← c .before .before .number .ensures) (search branches depth 40 fits 8000))
+    (λ c. rw (← c .before .number .ensures) (search branches depth 40 fits 8000)))

@@ -1,0 +1,19 @@
+use borrow.Author.Needs.{needs}
+use Rattle.laws.proofs.Branches.{branches}
+use Rattle.channel.specs.Opened.{onAccept}
+use Rattle.channel.proofs.Channel.on_accept.Statement.{statement}
+use Rattle.channel.proofs.Channel.on_accept.Tie as tie
+
+pub on-accept-spec : {M : Type 1} → statement M
+unfolding onAccept
+on-accept-spec =
+    tie.close
+    (tie.spec
+    (λ c κs. search needs)
+    (λ c. search branches depth 40 fits 8000)
+    (λ c κs. search needs)
+    (λ c. search branches depth 40 fits 8000)
+    (λ c κs. search needs)
+    (λ c. search branches depth 40 fits 8000)
+    (λ c κs. search needs)
+    (λ c. search branches depth 40 fits 8000))

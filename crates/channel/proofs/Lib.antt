@@ -1,0 +1,3 @@
+pub mod Arriving
+pub mod Passing
+pub mod Handing

@@ -1,0 +1,244 @@
+-- 01, "Telegrams on an open connection": what a channel does at each call.
+use Prim.Native.Nat.{ℕ, _+_, _-_}
+use mathlib.Core.Bool.{Bool, true, false, not, _&&_, _||_}
+use mathlib.Core.List.{List, []}
+use lib.ListN.{length}
+use lib.Dec.{ltb, leb, eqb}
+use Rattle.laws.specs.If.{if_then_else_}
+use Rattle.telegram.specs.Outgoing.{written}
+use Rattle.telegram.specs.Kinds.{ackOf, testOf, acceptOf}
+use Rattle.telegram.specs.declared.payload.Payload.{Payload}
+use Rattle.telegram.specs.declared.kinds.Parameters.{Parameters as Fields}
+use Rattle.telegram.specs.declared.kinds.Telegram.{Telegram}
+use Rattle.telegram.specs.declared.kinds.Telegram.the-variants.{Data, Ack, Test, Break, Disconnect, Setup, Accept, Malformed}
+use Rattle.sender.specs.Sending.{offered, heard, passed, handed, unacknowledged, fresh as freshSender}
+use Rattle.sender.specs.declared.Sender.{Sender}
+use Rattle.sender.specs.declared.Hearing.{Hearing}
+use Rattle.sender.specs.declared.Hearing.the-variants.{Part, Done as LastAcknowledged, Held, Nothing, UsedUp as NotReadyTooOften, NoAck}
+use Rattle.sender.specs.declared.Offer.{Offer}
+use Rattle.sender.specs.declared.Offer.the-variants.{Accepted, Busy as InSending, BadLength as NotSent}
+use Rattle.sender.specs.declared.Passing.{Passing}
+use Rattle.sender.specs.declared.Passing.the-variants.{Quiet, Again, UsedUp as RanOut}
+use Rattle.sender.specs.declared.Handing.{Handing}
+use Rattle.sender.specs.declared.Handing.the-variants.{Frame, Nothing as NoFrame, OtherLength}
+use Rattle.sender.specs.declared.Handed.{Handed}
+use Rattle.receiver.specs.Receiving.{received, buffered, returned, ackHanded, fresh as freshReceiver}
+use Rattle.receiver.specs.declared.Receiver.{Receiver}
+use Rattle.receiver.specs.declared.Receipt.{Receipt}
+use Rattle.receiver.specs.declared.Receipt.the-variants.{Used, Complete, ThrownAway, OutOfPlace, Untaken, ShortFirst, ShortLater, Broken as BrokenBy, NoData}
+use Rattle.channel.specs.declared.Parameters.{Parameters}
+use Rattle.channel.specs.declared.Tests.{Tests}
+use Rattle.channel.specs.declared.Channel.{Channel}
+use Rattle.channel.specs.declared.Answer.{Answer}
+use Rattle.channel.specs.declared.Answer.the-variants.{Good, Done, Disconnected, Malformed as BadForm, BlockSize, NotDue, Busy, BadLength, ShortBuffer, UsedUp, Broken, NoChange}
+use Rattle.channel.specs.declared.Arrived.{Arrived}
+use Rattle.channel.specs.declared.Elapsed.{Elapsed}
+use Rattle.channel.specs.declared.Due.{Due}
+use Rattle.channel.specs.declared.Sent.{Sent}
+use Rattle.channel.specs.Numbers.{numberOf}
+
+-- ---- parts of a channel put back
+
+abbrev pub withSender : Channel → Sender → Channel
+withSender c s = record { parameters = c .parameters; sender = s; receiver = c .receiver; tests = c .tests; accept = c .accept }
+
+abbrev pub withReceiver : Channel → Receiver → Channel
+withReceiver c r = record { parameters = c .parameters; sender = c .sender; receiver = r; tests = c .tests; accept = c .accept }
+
+abbrev pub withTests : Channel → Tests → Channel
+withTests c t = record { parameters = c .parameters; sender = c .sender; receiver = c .receiver; tests = t; accept = c .accept }
+
+abbrev pub withAccept : Channel → Bool → Channel
+withAccept c a = record { parameters = c .parameters; sender = c .sender; receiver = c .receiver; tests = c .tests; accept = a }
+
+-- no test out or due and none unanswered, with what is left of the interval
+abbrev pub quiet : (interval : ℕ) → Tests
+quiet interval = record { out = false; again = false; wait = 0; unanswered = 0; interval = interval }
+
+-- what the A1 that opens a channel leaves: nothing received, in sending or due, and the interval from its start
+abbrev pub fresh : Parameters → Channel
+fresh p = record { parameters = p; sender = freshSender; receiver = freshReceiver; tests = quiet (p .interval); accept = false }
+
+-- the interval starts again, by a frame handed over or answered 0
+abbrev pub restarted : Channel → Channel
+restarted c =
+    withTests c
+    (record {
+      out = c .tests .out;
+      again = c .tests .again;
+      wait = c .tests .wait;
+      unanswered = c .tests .unanswered;
+      interval = c .parameters .interval;
+    })
+
+-- ---- a telegram arrives
+
+-- the answer to data: 0, or row 12, 5, 7 or 9
+abbrev pub dataAnswer : Receipt → Answer
+dataAnswer Used = Good
+dataAnswer Complete = Good
+dataAnswer ThrownAway = Good
+dataAnswer (OutOfPlace e) = NoChange
+dataAnswer Untaken = Busy
+dataAnswer ShortFirst = ShortBuffer
+dataAnswer ShortLater = ShortBuffer
+dataAnswer (BrokenBy c) = Broken c
+dataAnswer NoData = NotDue
+
+-- the answer to an Ack: 0, row 12 where it changes nothing, or row 8
+abbrev pub ackAnswer : Hearing → Answer
+ackAnswer Part = Good
+ackAnswer LastAcknowledged = Done
+ackAnswer Held = Good
+ackAnswer Nothing = NoChange
+ackAnswer NotReadyTooOften = UsedUp
+ackAnswer NoAck = NotDue
+
+-- an arrival: a frame answered 0 starts the interval again
+unfoldable pub answered : Answer → Channel → Arrived
+answered a c = if eqb (numberOf a) 0 then record { answer = a; channel = restarted c } else record { answer = a; channel = c }
+
+-- data: what the receiving half makes of it
+unfoldable pub onData : (limit : ℕ) → Channel → Telegram → (p : List ℕ) → (room : ℕ) → Arrived
+onData limit c t p room =
+    (let r = received limit (c .receiver) t p room in answered (dataAnswer (r .note)) (withReceiver c (r .receiver)))
+
+-- an Ack: what the sending half makes of it
+unfoldable pub onAck : Channel → Telegram → Arrived
+onAck c t = (let h = heard (c .parameters .terms) (c .sender) t in answered (ackAnswer (h .note)) (withSender c (h .sender)))
+
+-- a test makes our A1 due
+abbrev pub onTest : Channel → Arrived
+onTest c = answered Good (withAccept c true)
+
+-- a break takes the receiving half back
+abbrev pub onBreak : Channel → Arrived
+onBreak c = answered Good (withReceiver c (returned (c .receiver)))
+
+-- an A1 answers a test that is out: 4 with none out, then 2 for its block size byte; else no test is out or due, and the unanswered count is 0
+unfoldable pub onAccept : Channel → Fields → Arrived
+onAccept c p =
+    if not (c .tests .out) then answered NotDue c
+    else if eqb (p .block) 0 then answered BlockSize c
+    else if ltb 15 (p .block) then answered BlockSize c
+    else answered Good (withTests c (quiet (c .tests .interval)))
+
+-- a sorted telegram with the bytes p behind its first, lent a buffer of room bytes; every A0 gives 4, and what is badly formed 1
+unfoldable pub arrived : (limit : ℕ) → Channel → Telegram → (p : List ℕ) → (room : ℕ) → Arrived
+arrived limit c (Data asks last number) p room = onData limit c (Data asks last number) p room
+arrived limit c (Ack ready number) p room = onAck c (Ack ready number)
+arrived limit c Test p room = onTest c
+arrived limit c Break p room = onBreak c
+arrived limit c Disconnect p room = answered Disconnected c
+arrived limit c (Setup s) p room = answered NotDue c
+arrived limit c (Accept s) p room = onAccept c s
+arrived limit c Malformed p room = answered BadForm c
+
+-- the lent buffer after it: what the receiving half does to it
+abbrev pub bufferedBy : (limit : ℕ) → Channel → Telegram → (p b : List ℕ) → List ℕ
+bufferedBy limit c t p b = buffered (c .receiver) (received limit (c .receiver) t p (length b) .note) p b
+
+-- ---- time passes
+
+-- a test's wait runs out within n tenths
+unfoldable pub waitEnds : Tests → ℕ → Bool
+waitEnds t n = not (eqb (t .wait) 0) && leb (t .wait) n
+
+-- the tests' timers with n tenths less, each stopping at zero
+abbrev pub later : Tests → ℕ → Tests
+later t n = record { out = t .out; again = t .again; wait = t .wait - n; unanswered = t .unanswered; interval = t .interval - n }
+
+-- a wait that ran out adds one and makes another test due
+abbrev pub ranOut : Tests → ℕ → Tests
+ranOut t n = record { out = t .out; again = true; wait = 0; unanswered = t .unanswered + 1; interval = t .interval - n }
+
+-- row 8; the channel is as it was, for the record above to close
+abbrev pub lost : Channel → Elapsed
+lost c = record { answer = UsedUp; channel = c }
+
+-- the timers ran on
+abbrev pub went : Channel → Sender → Tests → Elapsed
+went c s t = record { answer = Good; channel = withTests (withSender c s) t }
+
+-- the repeats of the block in sending are used up
+abbrev pub repeatsUsedUp : Passing → Bool
+repeatsUsedUp Quiet = false
+repeatsUsedUp Again = false
+repeatsUsedUp RanOut = true
+
+-- every timer that ends takes effect; 8 where the repeats are used up, or a test's wait runs out once more than is allowed
+unfoldable pub elapsed : Channel → ℕ → Elapsed
+elapsed c n =
+    (let s = passed (c .parameters .terms) (c .sender) n in
+    if repeatsUsedUp (s .note) then lost c
+    else if not (waitEnds (c .tests) n) then went c (s .sender) (later (c .tests) n)
+    else if leb (c .parameters .allowed) (c .tests .unanswered) then lost c
+    else went c (s .sender) (ranOut (c .tests) n))
+
+-- ---- a frame is asked for
+
+-- a test goes out with none out after the interval, or again after a wait that ran out; never while data is unacknowledged
+unfoldable pub testDue : Channel → Bool
+testDue c =
+    not (unacknowledged (c .sender))
+    && (c .tests .again || (not (c .tests .out) && ltb 0 (c .parameters .interval) && eqb (c .tests .interval) 0))
+
+-- a telegram handed over, which starts the interval again
+abbrev pub handOver : Channel → Payload → Due
+handOver c p = record { answer = Good; given = true; payload = p; channel = restarted c }
+
+-- nothing handed over: nothing is due, or row 7
+abbrev pub handNothing : Channel → Answer → Due
+handNothing c a = record { answer = a; given = false; payload = written []; channel = c }
+
+-- our A1, with the fields of our A0
+unfoldable pub handAccept : Channel → Due
+handAccept c = handOver (withAccept c false) (acceptOf (c .parameters .own))
+
+-- a test: it is out, and waits T1
+unfoldable pub handTest : Channel → Due
+handTest c =
+    handOver
+    (withTests c
+    (record {
+      out = true;
+      again = false;
+      wait = c .parameters .terms .t1;
+      unanswered = c .tests .unanswered;
+      interval = c .tests .interval;
+    }))
+    testOf
+
+-- the due Ack
+unfoldable pub handAck : Channel → Due
+handAck c = handOver (withReceiver c (ackHanded (c .receiver))) (ackOf (c .receiver .ack .ready) (c .receiver .ack .number))
+
+-- what the sending half found: data, none due, or row 7, a lent message not of the accepted length
+abbrev pub handBy : Channel → Handed → Handing → Due
+handBy c h Frame = handOver (withSender c (h .sender)) (h .payload)
+handBy c h NoFrame = handNothing c Good
+handBy c h OtherLength = handNothing c ShortBuffer
+
+-- the data that is due, of the lent message
+unfoldable pub handData : Channel → List ℕ → Due
+handData c m = (let h = handed (c .parameters .terms) (c .sender) m in handBy c h (h .note))
+
+-- at most one telegram, in the order CA, test, Ack, data
+unfoldable pub due : Channel → List ℕ → Due
+due c m =
+    if c .accept then handAccept c
+    else if testDue c then handTest c
+    else if c .receiver .ack .due then handAck c
+    else handData c m
+
+-- ---- a message is offered
+
+-- the answer to a message offered: 0, or row 5 or 6
+abbrev pub offerAnswer : Offer → Answer
+offerAnswer Accepted = Good
+offerAnswer InSending = Busy
+offerAnswer NotSent = BadLength
+
+-- a message of n bytes to send
+unfoldable pub sent : (limit : ℕ) → Channel → ℕ → Sent
+sent limit c n = (let o = offered limit (c .sender) n in record { answer = offerAnswer (o .note); channel = withSender c (o .sender) })

@@ -1,0 +1,34 @@
+-- Frames out of place: after a gap, or repeated.
+use Prim.Native.Nat.{ℕ}
+use native.Mathlib.Omega.{arith}
+use mathlib.Core.Bool.{Bool, true, false, not}
+use mathlib.Core.Path.{_≡_, refl}
+use mathlib.Core.List.{List}
+use borrow.Author.Tests.{ne-eqb}
+use Rattle.receiver.specs.Receiving.{waiting, following, settled, kept, onData, isUsed}
+use Rattle.receiver.specs.declared.Receiver.{Receiver}
+use Rattle.receiver.specs.declared.Receipt.the-variants.{OutOfPlace}
+use Rattle.receiver.specs.declared.Received.{Received}
+
+-- a frame that was not used: all is as before, but an Ack is due with the number still expected
+pub record Unused (r : Receiver) (x : Received) : Type 0 where
+  pub note : isUsed (x .note) ≡ false
+  pub at : x .receiver .at ≡ r .at
+  pub complete : x .receiver .complete ≡ r .complete
+  pub ack : x .receiver .ack ≡ record { due = true; ready = not (waiting r); number = r .at .expected }
+
+module _ (limit : ℕ) (r : Receiver) (last : Bool) (number : ℕ) (p : List ℕ) (room : ℕ) where
+  -- after a gap the Ack carries the number expected, not the frame's own + 1
+  pub gap-acknowledged : (number ≡ r .at .expected → ⊥) → Unused r (onData limit r true last number p room)
+  unfolding onData settled
+  gap-acknowledged n = rw (ne-eqb number (r .at .expected) n) (record { note = refl; at = refl; complete = refl; ack = refl })
+
+  -- a repeated last frame, one behind the expected number, is acknowledged again and not used, whatever the state
+  pub repeat-acknowledged : following number ≡ r .at .expected → Unused r (onData limit r true last number p room)
+  repeat-acknowledged e = gap-acknowledged (λ same. omega arith)
+
+-- a frame with another number than the expected one changes nothing, except an asked-for Ack
+pub gap-kept : (limit : ℕ) (r : Receiver) (asks last : Bool) (number : ℕ) (p : List ℕ) (room : ℕ)
+    → (number ≡ r .at .expected → ⊥) → onData limit r asks last number p room ≡ record { note = OutOfPlace (r .at .expected); receiver = kept r asks }
+unfolding onData
+gap-kept limit r asks last number p room n = rw (ne-eqb number (r .at .expected) n)

@@ -1,0 +1,3 @@
+pub mod Gaps
+pub mod Outcomes
+pub mod Laws
