@@ -107,7 +107,7 @@ Takes r room Shown x = (r .complete .length ≤ room) × (waiting x ≡ false)
 Takes r room NoneComplete x = (waiting r ≡ false) × (x ≡ r)
 Takes r room ShortBuffer x = (room < r .complete .length) × (x ≡ r)
 
--- all but the complete message is as it was
+-- a take, by its answer; and all but the complete message is as it was
 pub record Left (r : Receiver) (room : ℕ) (x : Took) : Type 0 where
   pub takes : Takes r room (x .note) (x .receiver)
   pub at : x .receiver .at ≡ r .at

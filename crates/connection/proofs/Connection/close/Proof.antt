@@ -1,0 +1,16 @@
+use Rattle.laws.proofs.Branches.{branches}
+use Rattle.connection.specs.Calls.{closed}
+use borrow.Author.Needs.{needs}
+use Rattle.connection.proofs.Connection.close.Statement.{statement}
+use Rattle.connection.proofs.Connection.close.Tie as tie
+
+pub close-spec : {M : Type 1} → statement M
+unfolding closed
+close-spec =
+    tie.close
+    (tie.spec
+    (λ c. search branches depth 40 fits 8000)
+    (λ c κs. search needs)
+    (λ c. rw (c .closed .ensures) (search branches depth 40 fits 8000))
+    (λ c κs. search needs)
+    (λ c. rw (c .leaving-on .ensures) (search branches depth 40 fits 8000)))

@@ -1,0 +1,12 @@
+use borrow.Author.Needs.{needs}
+use Rattle.connection.proofs.Connection.closed.Statement.{statement}
+use Rattle.connection.proofs.Connection.closed.Tie as tie
+
+pub closed-spec : {M : Type 1} → statement M
+closed-spec =
+    tie.close
+    (tie.spec
+    (λ c κs. search needs)
+    (λ c κs. search needs)
+    (λ c κs. search needs)
+    (λ c. rw (c .no-channel .ensures, c .before .no-attempt .ensures, c .before .before .default .ensures)))

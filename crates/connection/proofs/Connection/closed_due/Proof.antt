@@ -1,0 +1,16 @@
+use Rattle.laws.proofs.Branches.{branches}
+use Rattle.connection.specs.Calls.{closedDue}
+use borrow.Author.Needs.{needs}
+use Rattle.connection.proofs.Connection.closed_due.Statement.{statement}
+use Rattle.connection.proofs.Connection.closed_due.Tie as tie
+
+pub closed-due-spec : {M : Type 1} → statement M
+unfolding closedDue
+closed-due-spec =
+    tie.close
+    (tie.spec
+    (λ c κs. search needs)
+    (λ c. rw (c .no-frame .ensures) (search branches depth 40 fits 8000))
+    (λ c κs. search needs)
+    (λ c κs. search needs)
+    (λ c. rw (c .closed .ensures, c .before .write-disconnect .ensures) (search branches depth 40 fits 8000)))

@@ -1,0 +1,20 @@
+use Rattle.laws.proofs.Branches.{branches}
+use Rattle.connection.specs.Calls.{elapsed}
+use borrow.Author.Needs.{needs}
+use Rattle.connection.proofs.Connection.elapse.Statement.{statement}
+use Rattle.connection.proofs.Connection.elapse.Tie as tie
+
+pub elapse-spec : {M : Type 1} → statement M
+unfolding elapsed
+elapse-spec =
+    tie.close
+    (tie.spec
+    (λ c. search branches depth 40 fits 8000)
+    (λ c κs. search needs)
+    (λ c. rw (c .attempt-elapses .ensures) (search branches depth 40 fits 8000))
+    (λ c κs. search needs)
+    (λ c. rw (c .attempt-elapses2 .ensures) (search branches depth 40 fits 8000))
+    (λ c κs. search needs)
+    (λ c κs. search needs)
+    (λ c κs. search needs)
+    (λ c. rw (c .settled .ensures, c .before .pass-on .ensures, ← c .before .before .before .elapse .ensures) (search branches depth 40 fits 8000)))

@@ -1,0 +1,16 @@
+use Rattle.laws.proofs.Branches.{branches}
+use Rattle.connection.specs.Calls.{onAccept}
+use borrow.Author.Needs.{needs}
+use Rattle.connection.proofs.Connection.on_accept.Statement.{statement}
+use Rattle.connection.proofs.Connection.on_accept.Tie as tie
+
+pub on-accept-spec : {M : Type 1} → statement M
+unfolding onAccept
+on-accept-spec =
+    tie.close
+    (tie.spec
+    (λ c. search branches depth 40 fits 8000)
+    (λ c. search branches depth 40 fits 8000)
+    (λ c. search branches depth 40 fits 8000)
+    (λ c κs. search needs)
+    (λ c. rw (c .opened .ensures) (search branches depth 40 fits 8000)))

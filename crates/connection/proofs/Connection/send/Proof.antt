@@ -1,0 +1,16 @@
+use Rattle.laws.proofs.Branches.{branches}
+use Rattle.connection.specs.Calls.{sentBy}
+use borrow.Author.Needs.{needs}
+use Rattle.connection.proofs.Connection.send.Statement.{statement}
+use Rattle.connection.proofs.Connection.send.Tie as tie
+
+pub send-spec : {M : Type 1} → statement M
+unfolding sentBy
+send-spec =
+    tie.close
+    (tie.spec
+    (λ c κs. search needs)
+    (λ c. rw (← c .before .is-open .ensures) (search branches depth 40 fits 8000))
+    (λ c κs. search needs)
+    (λ c κs. search needs)
+    (λ c. rw (c .pass-on .ensures, ← c .before .before .send .ensures, ← c .before .before .before .before .before .is-open .ensures) (search branches depth 40 fits 8000)))

@@ -1,0 +1,827 @@
+// One end of a connection, on the side that opens it: a record goes in by value and comes back with an answer.
+//
+// Every call is good in every state and for every byte: what is not due, not well formed or not possible is refused by its
+// number in the protocol's table, and a refusal changes neither the record (but for an asked-for Ack) nor the buffer.
+ghost use mathlib.Core.Path.{_≡_};
+ghost use Prim.Native.Nat.{min};
+ghost use lib.ListN.{length, take, drop};
+ghost use Rattle.telegram.specs.Cutting.{longest};
+ghost use Rattle.telegram.specs.Kinds.{sorted};
+ghost use Rattle.channel.specs.Numbers.{closes};
+ghost use Rattle.channel.specs.Opened.{bufferedBy};
+ghost use Rattle.connection.specs.Numbers.{said, passedOn};
+ghost use Rattle.connection.specs.Record.{noAttempt, newAttempt, noChannel, closedRecord, leavingOn, requesting, agreeing, ownFields, agreed, opened, listensOn, isOpen};
+ghost use Rattle.connection.specs.Calls.{notDue, opening, onReply, onAccept, onAgreeing, settled, onOpen, arrived, buffered, attemptElapsed, elapsed, noFrame, closedDue, requestDue, openDue, dueOf, sentBy, takenBy, takes, looked, closed};
+use channel::Channel;
+use receiver::Cause;
+use receiver::Taking;
+use sender::Terms;
+use settings::Settings;
+use telegram::kinds::Parameters as Fields;
+use telegram::kinds::Telegram;
+use telegram::kinds::sort;
+use telegram::kinds::write_disconnect;
+use telegram::kinds::write_setup;
+use telegram::opening::Reply;
+use telegram::opening::read_reply;
+use telegram::opening::write_request;
+use telegram::payload::Payload;
+use telegram::time::less;
+use telegram::time::tenths;
+
+// A request of the opening, C0 or A0. A timer at 0 does not run.
+pub struct Attempt {
+    // It is due.
+    pub due: bool,
+    // It was handed over at least once.
+    pub asked: bool,
+    // What is left of the wait for the reply (T_E).
+    pub wait: u32,
+    // How often it was repeated.
+    pub repeats: u8,
+}
+
+// The record. Phases: 0 closed, 1 C0 unanswered, 2 A0 unanswered, 3 open.
+pub struct Connection {
+    pub phase: u8,
+    pub settings: Settings,
+    // The transmit ID, from the D0 on; in a closed record that of the A8 that is due.
+    pub transmit: u16,
+    pub attempt: Attempt,
+    // Closed, with one A8 due.
+    pub leaving: bool,
+    pub channel: Channel,
+}
+
+// What a call is answered with.
+pub enum Answer {
+    Good,
+    // An Ack that finished the message in sending.
+    Done,
+    Malformed,
+    BlockSize,
+    OtherId,
+    NotDue,
+    Busy,
+    BadLength,
+    ShortBuffer,
+    UsedUp,
+    Broken(Cause),
+    OutOfRange,
+    // The reply's opcode, D6, D7 or D8.
+    Refused(u8),
+    NoChange,
+}
+
+// A CAN frame to hand over.
+pub struct Frame {
+    pub id: u16,
+    pub payload: Payload,
+}
+
+pub struct Opened {
+    pub answer: Answer,
+    pub connection: Connection,
+}
+
+pub struct Arrived {
+    pub answer: Answer,
+    pub connection: Connection,
+}
+
+pub struct Elapsed {
+    pub answer: Answer,
+    pub connection: Connection,
+}
+
+// A frame to hand over, if one is given; else ID 0 and no bytes.
+pub struct Due {
+    pub answer: Answer,
+    pub given: bool,
+    pub frame: Frame,
+    pub connection: Connection,
+}
+
+pub struct Sent {
+    pub answer: Answer,
+    pub connection: Connection,
+}
+
+// What taking a message comes to: where it is shown, len is its declared length, and else 0.
+pub struct TakeStep {
+    pub answer: Answer,
+    pub len: usize,
+    pub connection: Connection,
+}
+
+// A message taken: the first part of the lent buffer, and nothing of it where none is shown.
+pub struct Taken<'a> {
+    pub answer: Answer,
+    pub connection: Connection,
+    pub message: &'a [u8],
+}
+
+pub struct Closed {
+    pub answer: Answer,
+    pub connection: Connection,
+}
+
+// An open channel's answer, as the record's.
+fn pass_on(answer: channel::Answer) -> Answer
+    ensures { λ r. ⌜ r ≡ passedOn answer ⌝ }
+{
+    match answer {
+        channel::Answer::Good => Answer::Good,
+        channel::Answer::Done => Answer::Done,
+        channel::Answer::Disconnected => Answer::Good,
+        channel::Answer::Malformed => Answer::Malformed,
+        channel::Answer::BlockSize => Answer::BlockSize,
+        channel::Answer::NotDue => Answer::NotDue,
+        channel::Answer::Busy => Answer::Busy,
+        channel::Answer::BadLength => Answer::BadLength,
+        channel::Answer::ShortBuffer => Answer::ShortBuffer,
+        channel::Answer::UsedUp => Answer::UsedUp,
+        channel::Answer::Broken(cause) => Answer::Broken(cause),
+        channel::Answer::NoChange => Answer::NoChange,
+    }
+}
+
+// Whether an open channel's answer closes the record.
+fn ends(answer: channel::Answer) -> bool
+    ensures { λ r. ⌜ r ≡ closes answer ⌝ }
+{
+    match answer {
+        channel::Answer::Good => false,
+        channel::Answer::Done => false,
+        channel::Answer::Disconnected => true,
+        channel::Answer::Malformed => false,
+        channel::Answer::BlockSize => false,
+        channel::Answer::NotDue => false,
+        channel::Answer::Busy => false,
+        channel::Answer::BadLength => false,
+        channel::Answer::ShortBuffer => false,
+        channel::Answer::UsedUp => true,
+        channel::Answer::Broken(_) => false,
+        channel::Answer::NoChange => false,
+    }
+}
+
+// The bytes behind the first.
+fn behind_first(bytes: &[u8]) -> &[u8]
+    ensures { λ r. ⌜ now r ≡ drop 1 (now (bytes .entry)) ⌝ }
+{
+    if bytes.len() == 0 {
+        return bytes;
+    }
+    &bytes[1..]
+}
+
+// The first len bytes of a buffer, where they lie; of a shorter one, all.
+pub fn shown<'a>(buffer: &'a [u8], len: usize) -> &'a [u8]
+    ensures { λ r. ⌜ (r .ptr ≡ buffer .entry .ptr) × (now r ≡ take len (now (buffer .entry))) ⌝ }
+{
+    if buffer.len() < len {
+        return buffer;
+    }
+    &buffer[..len]
+}
+
+// No request of the opening is out or due.
+fn no_attempt() -> Attempt
+    ensures { λ r. ⌜ r ≡ noAttempt ⌝ }
+{
+    Attempt {
+        due: false,
+        asked: false,
+        wait: 0,
+        repeats: 0,
+    }
+}
+
+// A request that is due for the first time.
+fn new_attempt() -> Attempt
+    ensures { λ r. ⌜ r ≡ newAttempt ⌝ }
+{
+    Attempt {
+        due: true,
+        asked: false,
+        wait: 0,
+        repeats: 0,
+    }
+}
+
+// The channel of a record that is not open.
+fn no_channel() -> Channel
+    ensures { λ r. ⌜ r ≡ noChannel ⌝ }
+{
+    Channel::fresh(channel::Parameters {
+        terms: Terms {
+            block: 0,
+            t1: 0,
+            t3: 0,
+            repeats: 0,
+            pause: 0,
+        },
+        interval: 0,
+        allowed: 0,
+        own: Fields {
+            block: 0,
+            t1: 0,
+            t3: 0,
+        },
+    })
+}
+
+// The fields of our own A0 and A1.
+fn own_fields(s: Settings) -> Fields
+    ensures { λ r. ⌜ r ≡ ownFields s ⌝ }
+{
+    Fields {
+        block: s.block,
+        t1: s.t1,
+        t3: s.t3,
+    }
+}
+
+// The smaller of two block sizes.
+fn smaller(a: u8, b: u8) -> u8
+    ensures { λ r. ⌜ r ≡ min a b ⌝ }
+{
+    if a < b {
+        return a;
+    }
+    b
+}
+
+// What our settings and the peer's A1 agree on.
+fn agree(s: Settings, p: Fields) -> channel::Parameters
+    ensures { λ r. ⌜ r ≡ agreed s p ⌝ }
+{
+    channel::Parameters {
+        terms: Terms {
+            block: smaller(s.block, p.block),
+            t1: tenths(s.t1),
+            t3: tenths(p.t3),
+            repeats: s.repeats,
+            pause: s.pause as u32,
+        },
+        interval: s.interval as u32,
+        allowed: s.tests,
+        own: own_fields(s),
+    }
+}
+
+fn no_frame() -> Frame
+    ensures { λ r. ⌜ r ≡ noFrame ⌝ }
+{
+    Frame {
+        id: 0,
+        payload: Payload {
+            len: 0,
+            bytes: [0, 0, 0, 0, 0, 0, 0, 0],
+        },
+    }
+}
+
+impl Connection {
+    // A closed connection, with nothing due.
+    pub fn closed() -> Connection
+        ensures { λ r. ⌜ r ≡ closedRecord ⌝ }
+    {
+        Connection {
+            phase: 0,
+            settings: Settings::default(),
+            transmit: 0,
+            attempt: no_attempt(),
+            leaving: false,
+            channel: no_channel(),
+        }
+    }
+
+    // A closed connection with one A8 due on a transmit ID.
+    fn leaving_on(transmit: u16) -> Connection
+        ensures { λ r. ⌜ r ≡ leavingOn transmit ⌝ }
+    {
+        let mut c = Connection::closed();
+        c.transmit = transmit;
+        c.leaving = true;
+        c
+    }
+
+    // Opens a closed connection: the C0 is due.
+    pub fn open(self, settings: Settings) -> Opened
+        ensures { λ r. ⌜ r ≡ opening self settings ⌝ }
+    {
+        let phase = self.phase;
+        if phase != 0 {
+            return Opened {
+                answer: Answer::NotDue,
+                connection: self,
+            };
+        }
+        if !settings.in_range() {
+            return Opened {
+                answer: Answer::OutOfRange,
+                connection: self,
+            };
+        }
+        Opened {
+            answer: Answer::Good,
+            connection: Connection {
+                phase: 1,
+                settings,
+                transmit: 0,
+                attempt: new_attempt(),
+                leaving: false,
+                channel: no_channel(),
+            },
+        }
+    }
+
+    // The ID that a record which is not closed listens on.
+    fn listens_on(self) -> u16
+        ensures { λ r. ⌜ r ≡ listensOn self ⌝ }
+    {
+        let phase = self.phase;
+        let unit = self.settings.unit;
+        if phase == 1 {
+            return 0x200 + unit as u16;
+        }
+        self.settings.receive
+    }
+
+    // A reply to the C0.
+    fn on_reply(mut self, reply: Reply) -> Arrived
+        ensures { λ r. ⌜ r ≡ onReply self reply ⌝ }
+    {
+        let asked = self.attempt.asked;
+        match reply {
+            Reply::Malformed => Arrived {
+                answer: Answer::Malformed,
+                connection: self,
+            },
+            Reply::Refused(opcode) => {
+                if !asked {
+                    return Arrived {
+                        answer: Answer::NotDue,
+                        connection: self,
+                    };
+                }
+                Arrived {
+                    answer: Answer::Refused(opcode),
+                    connection: Connection::closed(),
+                }
+            }
+            Reply::Positive(transmit) => {
+                if !asked {
+                    return Arrived {
+                        answer: Answer::NotDue,
+                        connection: self,
+                    };
+                }
+                Arrived {
+                    answer: Answer::Good,
+                    connection: self.agreeing(transmit),
+                }
+            }
+        }
+    }
+
+    // The D0 named the transmit ID: the A0 is due.
+    fn agreeing(self, transmit: u16) -> Connection
+        ensures { λ r. ⌜ r ≡ agreeing self transmit ⌝ }
+    {
+        let settings = self.settings;
+        Connection {
+            phase: 2,
+            settings,
+            transmit,
+            attempt: new_attempt(),
+            leaving: false,
+            channel: no_channel(),
+        }
+    }
+
+    // The A1 opens the channel.
+    fn opened(self, fields: Fields) -> Connection
+        ensures { λ r. ⌜ r ≡ opened self fields ⌝ }
+    {
+        let settings = self.settings;
+        Connection {
+            phase: 3,
+            settings,
+            transmit: self.transmit,
+            attempt: no_attempt(),
+            leaving: false,
+            channel: Channel::fresh(agree(settings, fields)),
+        }
+    }
+
+    // A telegram while the A1 is awaited.
+    fn on_agreeing(self, kind: Telegram) -> Arrived
+        ensures { λ r. ⌜ r ≡ onAgreeing self kind ⌝ }
+    {
+        match kind {
+            Telegram::Accept(fields) => self.on_accept(fields),
+            Telegram::Disconnect => Arrived {
+                answer: Answer::Good,
+                connection: Connection::leaving_on(self.transmit),
+            },
+            Telegram::Malformed => Arrived {
+                answer: Answer::Malformed,
+                connection: self,
+            },
+            Telegram::Data {
+                asks: _,
+                last: _,
+                number: _,
+            } => self.not_due(),
+            Telegram::Ack {
+                ready: _,
+                number: _,
+            } => self.not_due(),
+            Telegram::Test => self.not_due(),
+            Telegram::Break => self.not_due(),
+            Telegram::Setup(_) => self.not_due(),
+        }
+    }
+
+    // A kind that is not due.
+    fn not_due(self) -> Arrived
+        ensures { λ r. ⌜ r ≡ notDue self ⌝ }
+    {
+        Arrived {
+            answer: Answer::NotDue,
+            connection: self,
+        }
+    }
+
+    // The A1 that is awaited.
+    fn on_accept(self, fields: Fields) -> Arrived
+        ensures { λ r. ⌜ r ≡ onAccept self fields ⌝ }
+    {
+        let asked = self.attempt.asked;
+        let block = fields.block;
+        if !asked {
+            return Arrived {
+                answer: Answer::NotDue,
+                connection: self,
+            };
+        }
+        if block == 0 {
+            return Arrived {
+                answer: Answer::BlockSize,
+                connection: self,
+            };
+        }
+        if 15 < block {
+            return Arrived {
+                answer: Answer::BlockSize,
+                connection: self,
+            };
+        }
+        Arrived {
+            answer: Answer::Good,
+            connection: self.opened(fields),
+        }
+    }
+
+    // Closes: one A8 is due if the transmit ID is known.
+    pub fn close(self) -> Closed
+        ensures { λ r. ⌜ r ≡ closed self ⌝ }
+    {
+        let phase = self.phase;
+        if phase == 0 {
+            return Closed {
+                answer: Answer::NotDue,
+                connection: self,
+            };
+        }
+        if phase == 1 {
+            return Closed {
+                answer: Answer::Good,
+                connection: Connection::closed(),
+            };
+        }
+        Closed {
+            answer: Answer::Good,
+            connection: Connection::leaving_on(self.transmit),
+        }
+    }
+
+    // A CAN frame arrives, and a buffer is lent.
+    pub fn arrive(self, id: u16, bytes: &[u8], buffer: &mut [u8]) -> Arrived
+        ensures { λ r. ⌜ r ≡ arrived longest self id (now (bytes .entry)) (length (now (buffer .entry))) ⌝ }
+        ensures { λ r. ⌜ now (buffer .exit) ≡ buffered longest self id (now (bytes .entry)) (now (buffer .entry)) ⌝ }
+    {
+        let phase = self.phase;
+        let receive = self.settings.receive;
+        if phase == 0 {
+            return Arrived {
+                answer: Answer::NotDue,
+                connection: self,
+            };
+        }
+        if id != self.listens_on() {
+            return Arrived {
+                answer: Answer::OtherId,
+                connection: self,
+            };
+        }
+        if phase == 1 {
+            return self.on_reply(read_reply(bytes, receive));
+        }
+        if phase == 2 {
+            let s = sort(bytes);
+            let kind = s.kind;
+            return self.on_agreeing(kind);
+        }
+        self.on_open(bytes, buffer)
+    }
+
+    // A frame on an open connection: the channel answers.
+    fn on_open(self, bytes: &[u8], buffer: &mut [u8]) -> Arrived
+        ensures { λ r. ⌜ r ≡ onOpen longest self (now (bytes .entry)) (length (now (buffer .entry))) ⌝ }
+        ensures { λ r. ⌜ now (buffer .exit) ≡ bufferedBy longest (self .channel) (sorted (now (bytes .entry)) .kind) (drop 1 (now (bytes .entry))) (now (buffer .entry)) ⌝ }
+    {
+        let ch = self.channel;
+        let r = ch.arrive(sort(bytes), behind_first(bytes), buffer);
+        let answer = r.answer;
+        let next = r.channel;
+        Arrived {
+            answer: pass_on(answer),
+            connection: self.settled(answer, next),
+        }
+    }
+
+    // What an open channel's answer leaves of the record.
+    fn settled(mut self, answer: channel::Answer, next: Channel) -> Connection
+        ensures { λ r. ⌜ r ≡ settled self answer next ⌝ }
+    {
+        if channel::number(answer) == 8 {
+            return Connection::closed();
+        }
+        if ends(answer) {
+            return Connection::leaving_on(self.transmit);
+        }
+        self.channel = next;
+        self
+    }
+
+    // Time passes.
+    pub fn elapse(self, tenths: u64) -> Elapsed
+        ensures { λ r. ⌜ r ≡ elapsed self tenths ⌝ }
+    {
+        let phase = self.phase;
+        if phase == 0 {
+            return Elapsed {
+                answer: Answer::Good,
+                connection: self,
+            };
+        }
+        if phase == 1 {
+            return self.attempt_elapses(tenths);
+        }
+        if phase == 2 {
+            return self.attempt_elapses(tenths);
+        }
+        let ch = self.channel;
+        let r = ch.elapse(tenths);
+        let answer = r.answer;
+        let next = r.channel;
+        Elapsed {
+            answer: pass_on(answer),
+            connection: self.settled(answer, next),
+        }
+    }
+
+    // Time passes while a reply is awaited.
+    fn attempt_elapses(mut self, tenths: u64) -> Elapsed
+        ensures { λ r. ⌜ r ≡ attemptElapsed self tenths ⌝ }
+    {
+        let mut a = self.attempt;
+        let wait = a.wait;
+        let repeats = a.repeats;
+        let most = self.settings.requests;
+        if wait == 0 {
+            return Elapsed {
+                answer: Answer::Good,
+                connection: self,
+            };
+        }
+        if tenths < wait as u64 {
+            a.wait = less(wait, tenths);
+            self.attempt = a;
+            return Elapsed {
+                answer: Answer::Good,
+                connection: self,
+            };
+        }
+        if most <= repeats {
+            return Elapsed {
+                answer: Answer::UsedUp,
+                connection: Connection::closed(),
+            };
+        }
+        a.due = true;
+        a.wait = 0;
+        a.repeats = repeats + 1;
+        self.attempt = a;
+        Elapsed {
+            answer: Answer::Good,
+            connection: self,
+        }
+    }
+
+    // What is due: at most one frame, the message in sending being lent.
+    pub fn due(self, message: &[u8]) -> Due
+        ensures { λ r. ⌜ r ≡ dueOf self (now (message .entry)) ⌝ }
+    {
+        let phase = self.phase;
+        let transmit = self.transmit;
+        if phase == 0 {
+            return self.closed_due();
+        }
+        if phase == 1 {
+            let payload = write_request(self.settings.unit, self.settings.receive);
+            return self.request_due(Frame { id: 0x200, payload });
+        }
+        if phase == 2 {
+            let payload = write_setup(own_fields(self.settings));
+            return self.request_due(Frame {
+                id: transmit,
+                payload,
+            });
+        }
+        self.open_due(message)
+    }
+
+    // A closed record has at most its A8 due.
+    fn closed_due(self) -> Due
+        ensures { λ r. ⌜ r ≡ closedDue self ⌝ }
+    {
+        let leaving = self.leaving;
+        let transmit = self.transmit;
+        if !leaving {
+            return Due {
+                answer: Answer::Good,
+                given: false,
+                frame: no_frame(),
+                connection: self,
+            };
+        }
+        Due {
+            answer: Answer::Good,
+            given: true,
+            frame: Frame {
+                id: transmit,
+                payload: write_disconnect(),
+            },
+            connection: Connection::closed(),
+        }
+    }
+
+    // The request of the opening, if it is due.
+    fn request_due(mut self, frame: Frame) -> Due
+        ensures { λ r. ⌜ r ≡ requestDue self frame ⌝ }
+    {
+        let mut a = self.attempt;
+        let due = a.due;
+        if !due {
+            return Due {
+                answer: Answer::Good,
+                given: false,
+                frame: no_frame(),
+                connection: self,
+            };
+        }
+        a.due = false;
+        a.asked = true;
+        a.wait = self.settings.reply as u32;
+        self.attempt = a;
+        Due {
+            answer: Answer::Good,
+            given: true,
+            frame,
+            connection: self,
+        }
+    }
+
+    // What an open channel has due, on the transmit ID.
+    fn open_due(mut self, message: &[u8]) -> Due
+        ensures { λ r. ⌜ r ≡ openDue self (now (message .entry)) ⌝ }
+    {
+        let ch = self.channel;
+        let d = ch.due(message);
+        let given = d.given;
+        let answer = d.answer;
+        let next = d.channel;
+        self.channel = next;
+        if !given {
+            return Due {
+                answer: pass_on(answer),
+                given: false,
+                frame: no_frame(),
+                connection: self,
+            };
+        }
+        let payload = d.payload;
+        Due {
+            answer: pass_on(answer),
+            given: true,
+            frame: Frame {
+                id: self.transmit,
+                payload,
+            },
+            connection: self,
+        }
+    }
+
+    // A message to send.
+    pub fn send(mut self, message: &[u8]) -> Sent
+        ensures { λ r. ⌜ r ≡ sentBy longest self (length (now (message .entry))) ⌝ }
+    {
+        if !self.is_open() {
+            return Sent {
+                answer: Answer::NotDue,
+                connection: self,
+            };
+        }
+        let ch = self.channel;
+        let r = ch.send(message.len());
+        let answer = r.answer;
+        let next = r.channel;
+        self.channel = next;
+        Sent {
+            answer: pass_on(answer),
+            connection: self,
+        }
+    }
+
+    // What taking a message comes to, in a lent buffer of room bytes.
+    pub fn take_step(mut self, room: usize) -> TakeStep
+        ensures { λ r. ⌜ r ≡ takenBy self room ⌝ }
+    {
+        if !self.is_open() {
+            return TakeStep {
+                answer: Answer::NotDue,
+                len: 0,
+                connection: self,
+            };
+        }
+        let mut ch = self.channel;
+        let receiver = ch.receiver;
+        let complete = receiver.complete;
+        let t = receiver.take(room);
+        let note = t.note;
+        let left = t.receiver;
+        ch.receiver = left;
+        self.channel = ch;
+        match note {
+            Taking::Shown => TakeStep {
+                answer: Answer::Good,
+                len: complete.length as usize,
+                connection: self,
+            },
+            Taking::NoneComplete => TakeStep {
+                answer: Answer::Busy,
+                len: 0,
+                connection: self,
+            },
+            Taking::ShortBuffer => TakeStep {
+                answer: Answer::ShortBuffer,
+                len: 0,
+                connection: self,
+            },
+        }
+    }
+
+    // Takes the complete message: it is shown as the first part of the lent buffer.
+    pub fn take<'a>(self, buffer: &'a [u8]) -> Taken<'a>
+        ensures { λ r. ⌜ looked r ≡ takes self (buffer .entry) ⌝ }
+    {
+        let step = self.take_step(buffer.len());
+        let message = shown(buffer, step.len);
+        Taken {
+            answer: step.answer,
+            connection: step.connection,
+            message,
+        }
+    }
+
+    fn is_open(self) -> bool
+        ensures { λ r. ⌜ r ≡ isOpen self ⌝ }
+    {
+        let phase = self.phase;
+        if phase == 0 {
+            return false;
+        }
+        if phase == 1 {
+            return false;
+        }
+        if phase == 2 {
+            return false;
+        }
+        true
+    }
+}

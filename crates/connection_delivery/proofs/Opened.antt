@@ -1,0 +1,145 @@
+-- Demand 3 for two connection records speaks of something: every two allowed settings open two fresh records.
+use Prim.Native.Nat.{ℕ, _+_, min, _≤_, _<_, _%_, _/_}
+use native.Mathlib.Nat.{one-le-mul, one-le-pow}
+use native.Mathlib.Omega.{arith}
+use mathlib.Core.Bool.{true, not}
+use mathlib.Core.List.{List, [], _∷_}
+use mathlib.Core.Path.{_≡_, refl, ap}
+use lib.Dec.{eqb, leb}
+use lib.ListN.{length, replicate}
+use borrow.Author.Tests.{leb-true, eqb-false, not-true, eq-eqb, ne-eqb, le-ltb}
+use Rattle.laws.proofs.Cases.{both}
+use Rattle.telegram.specs.Time.{tenthsOf}
+use Rattle.telegram.specs.Outgoing.{sent}
+use Rattle.telegram.specs.Opening.{requestOf, replyOf}
+use Rattle.telegram.specs.Kinds.{setupOf, acceptOf}
+use Rattle.telegram.specs.declared.kinds.Parameters.{Parameters as Fields}
+use Rattle.telegram.proofs.RoundTrip.{positive-read, accept-sorted}
+use Rattle.settings.specs.Settings.{allowed}
+use Rattle.settings.specs.declared.Settings.{Settings}
+use Rattle.connection.specs.declared.Connection.{Connection}
+use Rattle.connection.specs.declared.Answer.the-variants.{Good}
+use Rattle.connection.specs.Record.{requestId, closedRecord, withAttempt, requesting, agreeing, ownFields, opened}
+use Rattle.connection.specs.Calls.{opening, onReply, onAccept, onAgreeing, arrived, attemptOut, requestDue, dueOf}
+use Rattle.delivery.specs.System.{Try}
+use Rattle.connection_delivery.specs.Claim.{FreshPair}
+use Rattle.connection_delivery.specs.Opening.{exchange, openedPair}
+
+-- what the theorem needs of allowed settings
+record Allowed (s : Settings) : Type 0 where
+  receive : s .receive < 2048
+  least : 1 ≤ s .block
+  most : s .block ≤ 15
+  t1 : 1 ≤ tenthsOf (s .t1)
+  pause : 1 ≤ s .pause
+
+-- a time code whose scale is not 0 is at least one tenth
+tenths-some : (code : ℕ) → not (eqb (code % 64) 0) ≡ true → 1 ≤ tenthsOf code
+unfolding tenthsOf
+tenths-some code e = one-le-mul (omega (arith, eqb-false (code % 64) 0 (not-true _ e))) (one-le-pow (code / 64) 10 (omega arith))
+
+eleven-bits : (id : ℕ) → leb id 0x7FF ≡ true → id < 2048
+eleven-bits id e = omega (arith, leb-true id 0x7FF e)
+
+allowed-parts : (s : Settings) → allowed s ≡ true → Allowed s
+unfolding allowed
+allowed-parts s e =
+    let to-pause = both _ _ e in
+    let to-reply = both _ _ (to-pause .0) in
+    let to-t1 = both _ _ (both _ _ (to-reply .0) .0) in
+    let to-most = both _ _ (to-t1 .0) in
+    let to-least = both _ _ (to-most .0) in
+    let to-unit = both _ _ (to-least .0) in
+    record {
+      receive = eleven-bits (s .receive) (to-unit .0);
+      least = leb-true 1 (s .block) (to-least .1);
+      most = leb-true (s .block) 15 (to-most .1);
+      t1 = tenths-some (s .t1) (to-t1 .1);
+      pause = leb-true 1 (s .pause) (to-pause .1);
+    }
+
+-- ---- one end
+
+-- the record once its request was handed over
+abbrev asked : Connection → Connection
+asked c = withAttempt c (attemptOut c)
+
+module _ (limit : ℕ) (s : Settings) (a : allowed s ≡ true) (transmit : ℕ) (h : transmit < 2048) (f : Fields) (least : 1 ≤ f .block) (most : f .block ≤ 15) (room : ℕ) where
+  is-opened : opening closedRecord s ≡ record { answer = Good; connection = requesting s }
+  unfolding opening
+  is-opened = rw a
+
+  hands-c0 : dueOf (requesting s) []
+      ≡ record { answer = Good; given = true; frame = record { id = requestId; payload = requestOf (s .unit) (s .receive) }; connection = asked (requesting s) }
+  unfolding dueOf requestDue
+  hands-c0 = refl
+
+  d0-arrives : arrived limit (asked (requesting s)) (requestId + s .unit) (sent (replyOf 0xD0 (s .receive) transmit)) room
+      ≡ record { answer = Good; connection = agreeing (requesting s) transmit }
+  unfolding arrived onReply
+  d0-arrives = rw (eq-eqb (requestId + s .unit) _ refl, positive-read (s .receive) transmit (allowed-parts s a .receive) h)
+
+  hands-a0 : dueOf (agreeing (requesting s) transmit) []
+      ≡ record { answer = Good; given = true; frame = record { id = transmit; payload = setupOf (ownFields s) }; connection = asked (agreeing (requesting s) transmit) }
+  unfolding dueOf requestDue
+  hands-a0 = refl
+
+  a1-arrives : arrived limit (asked (agreeing (requesting s) transmit)) (s .receive) (sent (acceptOf f)) room
+      ≡ record { answer = Good; connection = opened (agreeing (requesting s) transmit) f }
+  unfolding arrived onAgreeing onAccept
+  a1-arrives =
+      rw (eq-eqb (s .receive) _ refl, ap (λ x. x .kind) (accept-sorted f), ne-eqb (f .block) 0 (omega (arith, least)), le-ltb 15 (f .block) most)
+
+  -- all five calls are answered 0, the C0 and the A0 are handed over, and the record is open
+  pub opened-fresh : exchange limit s transmit f room
+      ≡ record {
+        answers = replicate 5 Good;
+        frames = record { id = requestId; payload = requestOf (s .unit) (s .receive) } ∷ record { id = transmit; payload = setupOf (ownFields s) } ∷ [];
+        connection = opened (agreeing (requesting s) transmit) f;
+      }
+  unfolding exchange
+  opened-fresh = rw (is-opened, hands-c0, d0-arrives, hands-a0, a1-arrives)
+
+-- ---- two ends
+
+-- every answer is 0, and the pair is fresh, whatever its buffers
+pub opening-leads-to-fresh : (limit : ℕ) (s t : Settings) → allowed s ≡ true → allowed t ≡ true
+    → (f g : Fields) → 1 ≤ f .block → f .block ≤ 15 → 1 ≤ g .block → g .block ≤ 15 → min (t .block) (g .block) ≡ min (s .block) (f .block)
+    → (b c : List ℕ) (try : Try)
+    → (exchange limit s (t .receive) f (length b) .answers ≡ replicate 5 Good)
+    × (exchange limit t (s .receive) g (length c) .answers ≡ replicate 5 Good)
+    × FreshPair (openedPair limit s t f g b c try)
+opening-leads-to-fresh limit s t a a′ f g least most least′ most′ agreed b c try =
+    let p = allowed-parts s a in
+    let q = allowed-parts t a′ in
+    rw (opened-fresh limit s a (t .receive) (q .receive) f least most (length b), opened-fresh limit t a′ (s .receive) (p .receive) g least′ most′ (length c)) (
+      refl,
+      refl,
+      record {
+        near = refl;
+        far = refl;
+        forth = refl;
+        back = refl;
+        fresh =
+            record {
+              near = record { sender = refl; receiver = refl; tests = refl; accept = refl; t1 = p .t1; pause = p .pause; live = refl };
+              far = record { sender = refl; receiver = refl; tests = refl; accept = refl; t1 = q .t1; pause = q .pause; live = refl };
+              agreed = agreed;
+              least = omega (arith, p .least);
+              most = omega (arith, p .most);
+              forward = refl;
+              backward = refl;
+              history = refl;
+            };
+        sent = refl;
+        answered = refl;
+      },
+    )
+
+-- each end's A1 with the other's own fields: any two allowed settings do
+pub opened-to-each-other : (limit : ℕ) (s t : Settings) → allowed s ≡ true → allowed t ≡ true → (b c : List ℕ) (try : Try)
+    → FreshPair (openedPair limit s t (ownFields t) (ownFields s) b c try)
+opened-to-each-other limit s t a a′ b c try =
+    let p = allowed-parts s a in
+    let q = allowed-parts t a′ in
+    opening-leads-to-fresh limit s t a a′ (ownFields t) (ownFields s) (q .least) (q .most) (p .least) (p .most) (omega arith) b c try .2

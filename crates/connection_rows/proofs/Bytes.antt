@@ -1,0 +1,124 @@
+-- How bytes are sorted: a reply and a telegram go by the conditions of specs/Rows.antt, which shut one another out.
+use Prim.Native.Nat.{ℕ, _-_}
+use native.Mathlib.Omega.{arith}
+use mathlib.Core.Bool.{Bool, true, false, _&&_, _||_, true≢false}
+use mathlib.Core.List.{List}
+use mathlib.Core.Path.{_≡_, refl, sym, ap, _∙_}
+use lib.ListN.{length, getD}
+use lib.Dec.{ltb, leb, eqb}
+use borrow.Author.Tests.{leb-true, eqb-true, eqb-false, lt-ltb, le-ltb, ne-eqb}
+use Rattle.laws.proofs.Branches.{and-off, and-off′}
+use Rattle.laws.proofs.Cases.{by, and-first, and-second}
+use Rattle.telegram.specs.Opening.{idOf, replyRead}
+use Rattle.telegram.specs.Kinds.{top, bit4, fields, kindOf}
+use Rattle.telegram.specs.declared.opening.Reply.{Reply}
+use Rattle.telegram.specs.declared.opening.Reply.the-variants.{Positive, Refused, Malformed as NoReply}
+use Rattle.telegram.specs.declared.kinds.Telegram.{Telegram}
+use Rattle.telegram.specs.declared.kinds.Telegram.the-variants.{Data, Ack, Test, Break, Disconnect, Setup, Accept, Malformed}
+use Rattle.connection_rows.specs.Rows.{isData, asksAck, isLast, numberIn, isAck, isReady, isTest, isBreak, isDisconnect, isSetup, isAccept, isTelegram, isRefusal, isPositive}
+use Rattle.connection_rows.proofs.Tests.{alike}
+
+-- which of the seven kinds the bytes are
+pub record Kind (s : List ℕ) (d a t b x u p : Bool) : Type 0 where
+  pub data′ : isData s ≡ d
+  pub ack : isAck s ≡ a
+  pub test : isTest s ≡ t
+  pub break : isBreak s ≡ b
+  pub disconnect : isDisconnect s ≡ x
+  pub setup : isSetup s ≡ u
+  pub accept : isAccept s ≡ p
+
+-- the kind of this number alone: data, Ack, test, break, disconnect, A0, A1, or with 7 none
+abbrev pub Only : List ℕ → ℕ → Type 0
+Only s n = Kind s (eqb n 0) (eqb n 1) (eqb n 2) (eqb n 3) (eqb n 4) (eqb n 5) (eqb n 6)
+
+-- then whether they are a telegram at all
+pub telegram : {s : List ℕ} {d a t b x u p : Bool} → Kind s d a t b x u p → isTelegram s ≡ (d || a || t || b || x || u || p)
+unfolding isTelegram
+telegram k = rw (k .data′, k .ack, k .test, k .break, k .disconnect, k .setup, k .accept)
+
+-- two numbers that a test tells apart
+apart : (f : ℕ → Bool) (n m : ℕ) → f n ≡ true → f m ≡ false → eqb n m ≡ false
+apart f n m p q = ne-eqb n m (λ e. true≢false (sym p ∙ ap f e ∙ q))
+
+module _ (s : List ℕ) where
+  -- data is nothing else
+  data-kind : isData s ≡ true → Only s 0
+  unfolding isData isAck isTest isBreak isDisconnect isSetup isAccept
+  data-kind d =
+      let upper : eqb (top (getD s 0 0)) 0 ≡ true = search (and-first, and-second) in
+      let two : leb 2 (length s) ≡ true = search (and-first, and-second) in
+      let one = apart (leb 2) (length s) 1 two refl in
+      let a0 = apart (λ n. eqb (top n) 0) (getD s 0 0) 0xA0 upper refl in
+      let a1 = apart (λ n. eqb (top n) 0) (getD s 0 0) 0xA1 upper refl in
+      search (and-off, and-off′)
+
+  -- nor is an Ack
+  pub ack-kind : isAck s ≡ true → Only s 1
+  unfolding isData isAck isTest isBreak isDisconnect isSetup isAccept
+  ack-kind a =
+      let one = eqb-true (length s) 1 (search (and-first, and-second)) in
+      let lower : eqb (bit4 (getD s 0 0)) 1 ≡ true = search (and-first, and-second) in
+      let two : leb 2 (length s) ≡ false = rw one in
+      let six : eqb (length s) 6 ≡ false = rw one in
+      let a3 = apart (λ n. eqb (bit4 n) 1) (getD s 0 0) 0xA3 lower refl in
+      let a4 = apart (λ n. eqb (bit4 n) 1) (getD s 0 0) 0xA4 lower refl in
+      let a8 = apart (λ n. eqb (bit4 n) 1) (getD s 0 0) 0xA8 lower refl in
+      search (and-off, and-off′)
+
+  -- the others are told by their length and first byte
+  code-kind : (n x : ℕ) → (eqb (length s) n && eqb (getD s 0 0) x) ≡ true
+      → Kind s (eqb (top x) 0 && leb 2 n && leb n 8) (eqb n 1 && eqb (top x) 2 && eqb (bit4 x) 1) (eqb n 1 && eqb x 0xA3) (eqb n 1 && eqb x 0xA4)
+      (eqb n 1 && eqb x 0xA8) (eqb n 6 && eqb x 0xA0) (eqb n 6 && eqb x 0xA1)
+  unfolding isData isAck isTest isBreak isDisconnect isSetup isAccept
+  code-kind n x h =
+      let l = eqb-true (length s) n (search and-first) in
+      let e = eqb-true (getD s 0 0) x (search (and-first, and-second)) in
+      record { data′ = rw (l, e); ack = rw (l, e); test = rw (l, e); break = rw (l, e); disconnect = rw (l, e); setup = rw (l, e); accept = rw (l, e) }
+
+  -- what holds of a telegram, by its kind
+  pub by-kind : (P : Telegram → Type 0)
+      → (Only s 0 → P (Data (asksAck s) (isLast s) (numberIn s)))
+      → (Only s 1 → P (Ack (isReady s) (numberIn s)))
+      → (Only s 2 → P Test)
+      → (Only s 3 → P Break)
+      → (Only s 4 → P Disconnect)
+      → (Only s 5 → P (Setup (fields s)))
+      → (Only s 6 → P (Accept (fields s)))
+      → (Only s 7 → P Malformed)
+      → P (kindOf s (getD s 0 0))
+  unfolding kindOf isData isAck isTest isBreak isDisconnect isSetup isAccept
+  by-kind P data′ ack test break disconnect setup accept malformed =
+      by P (isData s) (λ d. data′ (data-kind d)) (λ d.
+      by P (isAck s) (λ a. ack (ack-kind a)) (λ a.
+      by P (isTest s) (λ t. test (code-kind 1 0xA3 t)) (λ t.
+      by P (isBreak s) (λ b. break (code-kind 1 0xA4 b)) (λ b.
+      by P (isDisconnect s) (λ x. disconnect (code-kind 1 0xA8 x)) (λ x.
+      by P (isSetup s) (λ u. setup (code-kind 6 0xA0 u)) (λ u.
+      by P (isAccept s) (λ p. accept (code-kind 6 0xA1 p))
+      (λ p. malformed (record { data′ = d; ack = a; test = t; break = b; disconnect = x; setup = u; accept = p }))))))))
+
+  -- a reply has seven bytes, so it is no A0 or A1
+  no-channel : eqb (length s) 7 ≡ true → (isSetup s ≡ false) × (isAccept s ≡ false)
+  unfolding isSetup isAccept
+  no-channel h = let l = eqb-true (length s) 7 h in (rw l, rw l)
+
+  -- what holds of a reply, by what it says
+  pub by-reply : (receive : ℕ) (P : Reply → Type 0)
+      → (isRefusal s ≡ true → isSetup s ≡ false → isAccept s ≡ false → P (Refused (getD s 1 0)))
+      → (isRefusal s ≡ false → isPositive receive s ≡ true → isSetup s ≡ false → isAccept s ≡ false → P (Positive (idOf (getD s 4 0) (getD s 5 0))))
+      → (isRefusal s ≡ false → isPositive receive s ≡ false → P NoReply)
+      → P (replyRead s receive)
+  unfolding replyRead isRefusal isPositive
+  by-reply receive P refused positive none =
+      by P (isRefusal s) (λ r. let n = no-channel (search (and-first, and-second)) in refused r (n .0) (n .1)) (λ r.
+      by P (isPositive receive s) (λ p. let n = no-channel (search (and-first, and-second)) in positive r p (n .0) (n .1)) (none r))
+
+-- data of two bytes has one behind its first
+pub two-bytes : (s : List ℕ) → isData s ≡ true → eqb (length s) 2 ≡ ltb (length s - 1) 2
+unfolding isData
+two-bytes s d =
+    let two = leb-true 2 (length s) (search (and-first, and-second)) in
+    alike _ _
+    (λ e. let h = eqb-true (length s) 2 e in lt-ltb (length s - 1) 2 (omega arith))
+    (λ e. let h = eqb-false (length s) 2 e in le-ltb (length s - 1) 2 (omega arith))

@@ -1,0 +1,209 @@
+-- For each call and each number: the number is said exactly where a row of it holds and none before it in the call's table does,
+-- and what the call leaves with it. The tables stand in specs/Rows.antt, `Says` and `Given` in specs/Tables.antt.
+use Prim.Native.Nat.{ℕ, _+_}
+use mathlib.Core.Bool.{true, false, _||_, true≢false}
+use mathlib.Core.List.{List}
+use mathlib.Core.Logic.{_↔_, _≢_}
+use mathlib.Core.Path.{_≡_, refl, sym, ap, _∙_}
+use lib.ListN.{length, getD}
+use lib.Dec.{eqb}
+use borrow.Author.Tests.{ne-eqb, not-true}
+use Rattle.laws.specs.If.{if_then_else_}
+use Rattle.laws.proofs.Cases.{either, and-first, and-second, or-first, or-second}
+use Rattle.telegram.specs.Kinds.{disconnectOf}
+use Rattle.telegram.specs.Cutting.{framesOf}
+use Rattle.settings.specs.declared.Settings.{Settings}
+use Rattle.sender.specs.Sending.{accepted}
+use Rattle.receiver.specs.Receiving.{waiting, settled}
+use Rattle.channel.specs.Opened.{withSender, withReceiver}
+use Rattle.connection.specs.declared.Connection.{Connection}
+use Rattle.connection.specs.Numbers.{Said, plain}
+use Rattle.connection.specs.Record.{isClosed, isRequesting, isAgreeing, closedRecord, leavingOn, requesting, withChannel}
+use Rattle.connection.specs.Calls.{closedDue, dueOf}
+use Rattle.connection_rows.specs.Tables.{toldBy, Given, Says}
+use Rattle.connection_rows.specs.Rows.{isData, asksAck, otherId, noMessage, isHolding, ahead, isBeyond, atFirst, waitsUntaken, askedForAck, thrownAway, finishes, recordAfter, bufferAfter, arrivalTable, arriveSays, openTable, openSays, recordLater, timeTable, timeSays, hands, handsNone, dueTable, dueSays, sendTable, sendSays, messageTaken, takeTable, takeSays, closeTable, closeSays}
+use Rattle.connection_rows.proofs.Tables.{Leaving, given, says, every}
+use Rattle.connection_rows.proofs.Bytes.{telegram, ack-kind}
+use Rattle.connection_rows.proofs.Arrival.{arrive-told}
+use Rattle.connection_rows.proofs.Calls.{open-told, time-told, due-told, send-told, take-told, close-told}
+
+-- ---- a frame arrives
+
+module _ (limit : ℕ) (c : Connection) (id : ℕ) (s b : List ℕ) where
+  abbrev Arrives : ℕ → Connection × List ℕ → Type 0
+  Arrives n x = Says n x (arriveSays limit c id s b) (arrivalTable limit c id s b)
+
+  arrive : (n : ℕ) {x : Connection × List ℕ} → Leaving n x (arrivalTable limit c id s b) → Arrives n x
+  arrive = says _ (arrive-told limit c id s b)
+
+  pub arrive-row-0 : Arrives 0 (recordAfter c s, bufferAfter c s b)
+  arrive-row-0 = arrive 0 refl
+
+  pub arrive-row-1 : Arrives 1 (c, b)
+  arrive-row-1 = arrive 1 (λ _. refl, tt)
+
+  pub arrive-row-2 : Arrives 2 (c, b)
+  arrive-row-2 = arrive 2 (λ _. refl, tt)
+
+  pub arrive-row-3 : Arrives 3 (c, b)
+  arrive-row-3 = arrive 3 (λ _. refl, tt)
+
+  pub arrive-row-4 : Arrives 4 (c, b)
+  arrive-row-4 = arrive 4 (λ _. refl, (λ _. refl, tt))
+
+  pub arrive-row-5 : Arrives 5 (askedForAck c s, b)
+  arrive-row-5 = arrive 5 (λ _. refl, tt)
+
+  pub arrive-row-7 : Arrives 7 (if atFirst c then thrownAway c s else c, b)
+  arrive-row-7 =
+      arrive 7 (
+        λ h. let later : atFirst c ≡ false = not-true (atFirst c) (search (and-first, and-second)) in rw later,
+        (λ h. let first : atFirst c ≡ true = search (and-first, and-second) in rw first, tt),
+      )
+
+  pub arrive-row-8 : Arrives 8 (closedRecord, b)
+  arrive-row-8 = arrive 8 (λ _. refl, tt)
+
+  pub arrive-row-9 : Arrives 9 (thrownAway c s, b)
+  arrive-row-9 = arrive 9 (λ _. refl, tt)
+
+  pub arrive-row-11 : Arrives 11 (closedRecord, b)
+  arrive-row-11 = arrive 11 (λ _. refl, tt)
+
+  pub arrive-row-12 : Arrives 12 (askedForAck c s, b)
+  arrive-row-12 = arrive 12 (λ _. refl, tt)
+
+  -- "A refusal never writes to the buffer"
+  pub arrive-keeps-buffer : arriveSays limit c id s b .0 .number ≢ 0 → arriveSays limit c id s b .1 .1 ≡ b
+  arrive-keeps-buffer refuses =
+      rw (ne-eqb _ _ refuses) at
+      (every (arrivalTable limit c id s b) (arrive-told limit c id s b) (λ a x. if eqb (a .number) 0 then Unit else x .1 ≡ b)
+      (refl, (refl, (refl, (refl, (refl, (refl, (refl, (refl, (refl, (refl, (refl, (refl, tt)))))))))))))
+
+  -- "11 | D6, D7 or D8, with that opcode", and no other answer has one
+  pub arrive-opcode : arriveSays limit c id s b .0 .opcode ≡ (if eqb (arriveSays limit c id s b .0 .number) 11 then getD s 1 0 else 0)
+  arrive-opcode =
+      every (arrivalTable limit c id s b) (arrive-told limit c id s b) (λ a x. a .opcode ≡ (if eqb (a .number) 11 then getD s 1 0 else 0))
+      (refl, (refl, (refl, (refl, (refl, (refl, (refl, (refl, (refl, (refl, (refl, (refl, refl))))))))))))
+
+  not-done : finishes c s ≡ false → arriveSays limit c id s b .0 .done ≡ false
+  not-done f =
+      every (arrivalTable limit c id s b) (arrive-told limit c id s b) (λ a x. a .done ≡ false)
+      (refl, (refl, (refl, (refl, (refl, (refl, (refl, (refl, (refl, (refl, (refl, (refl, f))))))))))))
+
+  told-done : arriveSays limit c id s b .0 .done ≡ toldBy (arrivalTable limit c id s b) .0 .done
+  told-done = ap (λ (x : Said × (Connection × List ℕ)). x .0 .done) (arrive-told limit c id s b)
+
+  not-ours : otherId c id ≡ true → arriveSays limit c id s b .0 .done ≡ false
+  not-ours o = told-done ∙ (either (isClosed c) (λ e. rw e) (λ e. rw (e, o)))
+
+  -- an Ack that finishes the message is refused by no row
+  finishing : otherId c id ≡ false → finishes c s ≡ true → arriveSays limit c id s b .0 .done ≡ true
+  finishing same f =
+      let phases : (isClosed c || isRequesting c || isAgreeing c) ≡ false = not-true (isClosed c || isRequesting c || isAgreeing c) (search (and-first, and-second)) in
+      let closed : isClosed c ≡ false = search (or-first, or-second) in
+      let req : isRequesting c ≡ false = search (or-first, or-second) in
+      let agr : isAgreeing c ≡ false = search (or-first, or-second) in
+      let k = ack-kind s (search (and-first, and-second)) in
+      let some : noMessage c ≡ false = not-true (noMessage c) (search (and-first, and-second)) in
+      let free : isHolding c ≡ false = not-true (isHolding c) (search (and-first, and-second)) in
+      let far : eqb (ahead c s) 0 ≡ false = not-true (eqb (ahead c s) 0) (search (and-first, and-second)) in
+      let near : isBeyond c s ≡ false = not-true (isBeyond c s) (search (and-first, and-second)) in
+      let end : eqb (c .channel .sender .acked + ahead c s) (framesOf (c .channel .sender .length)) ≡ true = search (and-first, and-second) in
+      told-done ∙ rw (closed, same, req, agr, telegram k, k .data′, k .ack, k .accept, k .setup, some, free, far, near, end)
+
+  -- "The message is done when its last frame is acknowledged, and the answer to that Ack says so"
+  pub arrive-done : (arriveSays limit c id s b .0 .done ≡ true) ↔ ((otherId c id ≡ false) × (finishes c s ≡ true))
+  arrive-done = (
+    λ d. (either (otherId c id) (λ o. absurd (true≢false (sym d ∙ not-ours o))) (λ o. o), either (finishes c s) (λ f. f) (λ f. absurd (true≢false (sym d ∙ not-done f)))),
+    λ g. finishing (g .0) (g .1),
+  )
+
+-- row 5's Ack is "not ready"
+pub asked-not-ready : (c : Connection) (s : List ℕ) → waitsUntaken c s ≡ true → asksAck s ≡ true
+    → askedForAck c s .channel .receiver .ack ≡ record { due = true; ready = false; number = c .channel .receiver .at .expected }
+unfolding settled
+asked-not-ready c s w a =
+    let d : isData s ≡ true = search (and-first, and-second) in
+    let u : waiting (c .channel .receiver) ≡ true = search (and-first, and-second) in
+    rw (d, a, u)
+
+-- ---- open
+
+module _ (c : Connection) (s : Settings) where
+  pub open-row-0 : Says 0 (requesting s) (openSays c s) (openTable c s)
+  open-row-0 = says _ (open-told c s) 0 refl
+
+  pub open-row-4 : Says 4 c (openSays c s) (openTable c s)
+  open-row-4 = says _ (open-told c s) 4 (λ _. refl, tt)
+
+  pub open-row-10 : Says 10 c (openSays c s) (openTable c s)
+  open-row-10 = says _ (open-told c s) 10 (λ _. refl, tt)
+
+-- ---- time passes
+
+module _ (c : Connection) (n : ℕ) where
+  pub time-row-0 : Says 0 (recordLater c n) (timeSays c n) (timeTable c n)
+  time-row-0 = says _ (time-told c n) 0 refl
+
+  pub time-row-8 : Says 8 closedRecord (timeSays c n) (timeTable c n)
+  time-row-8 = says _ (time-told c n) 8 (λ _. refl, tt)
+
+-- ---- what is due
+
+module _ (c : Connection) (m : List ℕ) where
+  -- with 0, the frame of the first row that holds is handed over, or none
+  pub due-row-0 : (dueSays c m .0 .number ≡ 0) ↔ Given 0 (dueSays c m .1) (dueTable c m)
+  due-row-0 = given (dueTable c m) (due-told c m) 0
+
+  pub due-row-7 : Says 7 (handsNone c) (dueSays c m) (dueTable c m)
+  due-row-7 = says _ (due-told c m) 7 (λ _. refl, tt)
+
+-- "record closed, nothing due"
+pub closed-hands-none : (m : List ℕ) → dueSays closedRecord m ≡ (plain 0, handsNone closedRecord)
+unfolding dueOf closedDue
+closed-hands-none m = refl
+
+-- "closed, one A8 due"
+pub leaving-hands-one : (transmit : ℕ) (m : List ℕ) → dueSays (leavingOn transmit) m ≡ (plain 0, hands transmit disconnectOf closedRecord)
+unfolding dueOf closedDue
+leaving-hands-one transmit m = refl
+
+-- ---- send
+
+module _ (limit : ℕ) (c : Connection) (n : ℕ) where
+  pub send-row-0 : Says 0 (withChannel c (withSender (c .channel) (accepted (c .channel .sender) n))) (sendSays limit c n) (sendTable limit c n)
+  send-row-0 = says _ (send-told limit c n) 0 refl
+
+  pub send-row-4 : Says 4 c (sendSays limit c n) (sendTable limit c n)
+  send-row-4 = says _ (send-told limit c n) 4 (λ _. refl, tt)
+
+  pub send-row-5 : Says 5 c (sendSays limit c n) (sendTable limit c n)
+  send-row-5 = says _ (send-told limit c n) 5 (λ _. refl, tt)
+
+  pub send-row-6 : Says 6 c (sendSays limit c n) (sendTable limit c n)
+  send-row-6 = says _ (send-told limit c n) 6 (λ _. refl, tt)
+
+-- ---- take
+
+module _ (c : Connection) (room : ℕ) where
+  pub take-row-0 : Says 0 (c .channel .receiver .complete .length, withChannel c (withReceiver (c .channel) (messageTaken (c .channel .receiver)))) (takeSays c room) (takeTable c room)
+  take-row-0 = says _ (take-told c room) 0 refl
+
+  pub take-row-4 : Says 4 (0, c) (takeSays c room) (takeTable c room)
+  take-row-4 = says _ (take-told c room) 4 (λ _. refl, tt)
+
+  pub take-row-5 : Says 5 (0, c) (takeSays c room) (takeTable c room)
+  take-row-5 = says _ (take-told c room) 5 (λ _. refl, tt)
+
+  pub take-row-7 : Says 7 (0, c) (takeSays c room) (takeTable c room)
+  take-row-7 = says _ (take-told c room) 7 (λ _. refl, tt)
+
+-- ---- close
+
+module _ (c : Connection) where
+  pub close-row-0 : Says 0 (if isRequesting c then closedRecord else leavingOn (c .transmit)) (closeSays c) (closeTable c)
+  close-row-0 = says _ (close-told c) 0 refl
+
+  pub close-row-4 : Says 4 c (closeSays c) (closeTable c)
+  close-row-4 = says _ (close-told c) 4 (λ _. refl, tt)

@@ -1,0 +1,20 @@
+use mathlib.Core.Path.{sym}
+use Rattle.laws.proofs.Branches.{branches}
+use Rattle.settings.specs.Settings.{allowed}
+use Rattle.settings.proofs.Settings.in_range.Statement.{statement}
+use Rattle.settings.proofs.Settings.in_range.Tie as tie
+
+pub in-range-spec : {M : Type 1} → statement M
+unfolding allowed
+in-range-spec =
+    tie.close
+    (tie.spec
+    (λ c. sym (search branches depth 40 fits 8000))
+    (λ c. sym (search branches depth 40 fits 8000))
+    (λ c. sym (search branches depth 40 fits 8000))
+    (λ c. sym (search branches depth 40 fits 8000))
+    (λ c. sym (search branches depth 40 fits 8000))
+    (λ c. sym (search branches depth 40 fits 8000))
+    (λ c. sym (search branches depth 40 fits 8000))
+    (λ c. sym (search branches depth 40 fits 8000))
+    (λ c. sym (search branches depth 40 fits 8000)))

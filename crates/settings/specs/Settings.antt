@@ -1,0 +1,28 @@
+-- 01, "The record and its calls": the settings, with default and range.
+use Prim.Native.Nat.{ℕ, _%_}
+use mathlib.Core.Bool.{Bool, not, _&&_}
+use lib.Dec.{leb, eqb}
+use Rattle.settings.specs.declared.Settings.{Settings}
+
+-- the defaults
+abbrev pub defaults : Settings
+defaults =
+    record {
+      receive = 0x300;
+      unit = 0x01;
+      block = 15;
+      t1 = 0x8A;
+      t3 = 0x32;
+      reply = 1000;
+      requests = 10;
+      repeats = 5;
+      pause = 1000;
+      interval = 10000;
+      tests = 5;
+    }
+
+-- receive ID 0..0x7FF, unit 0x00..0xEF, block size 1..15, T1's scale not 0, T_E 1..10,000, T_WAIT 1..65,535; T3, MNTC, repeats, interval and tests are free in their widths
+unfoldable pub allowed : Settings → Bool
+allowed s =
+    leb (s .receive) 0x7FF && leb (s .unit) 0xEF && leb 1 (s .block) && leb (s .block) 15
+    && not (eqb (s .t1 % 64) 0) && leb 1 (s .reply) && leb (s .reply) 10000 && leb 1 (s .pause)

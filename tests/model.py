@@ -1,0 +1,669 @@
+#!/usr/bin/env python3
+"""One end of a TP 2.0 connection, on the side that opens it, as a plain executable model; over it the
+console's line protocol; and a car's unit as the other end. Run as a program, it answers standard input
+line by line as the console does.
+
+A call answers a pair: the number, and what it carries (None, "done", an opcode, a frame, a message).
+A timer at 0 does not run: every time that can be waited for is above 0, but for the peer's T3.
+"""
+
+import sys
+from typing import NamedTuple
+
+LONGEST = 1024          # bytes in a message
+SETUP_ID = 0x200        # the opening request comes from here, its reply from here + unit
+
+
+def tenths(code):
+    """Time codes: bits 7-6 the unit, bits 5-0 the multiplier."""
+    return (1, 10, 100, 1000)[code >> 6] * (code & 0x3F)
+
+
+class Settings(NamedTuple):
+    rx: int = 0x300
+    unit: int = 0x01
+    block: int = 15
+    t1: int = 0x8A
+    t3: int = 0x32
+    te: int = 1000
+    mntc: int = 10
+    repeats: int = 5
+    twait: int = 1000
+    interval: int = 10000
+    tests: int = 5
+
+    def good(self):
+        return (all(low <= value <= high for value, (low, high) in zip(self, RANGES))
+                and self.t1 & 0x3F != 0)
+
+
+# In the order of the settings.
+RANGES = ((0, 0x7FF), (0x00, 0xEF), (1, 15), (0, 255), (0, 255), (1, 10000),
+          (0, 255), (0, 255), (1, 65535), (0, 65535), (0, 255))
+
+
+def kind_of(data):
+    """Each telegram is sorted before any rule looks at it; None is badly formed."""
+    if not data:
+        return None
+    first = data[0]
+    if 2 <= len(data) <= 8 and first & 0xC0 == 0x00:
+        return "data"
+    if len(data) == 1:
+        if first & 0xD0 == 0x90:
+            return "ack"
+        return {0xA3: "test", 0xA4: "break", 0xA8: "disconnect"}.get(first)
+    if len(data) == 6:
+        return {0xA0: "A0", 0xA1: "A1"}.get(first)
+    return None
+
+
+def frames_of(length):
+    """Two length bytes and the message, cut in sevens."""
+    return (2 + length + 6) // 7
+
+
+def cut(message, place, block, number):
+    """The frame at this place (from 0) of the message; its number is given."""
+    last = place == frames_of(len(message)) - 1
+    asks = last or (place + 1) % block == 0
+    stream = len(message).to_bytes(2, "big") + message
+    first = (0x00 if asks else 0x20) | (0x10 if last else 0x00) | number
+    return bytes([first]) + stream[7 * place:7 * place + 7], asks
+
+
+class Sender:
+    """The sending half of an open connection."""
+
+    def __init__(self, block, gap):
+        self.block = block
+        self.peer_gap = gap     # the peer's T3
+        self.length = None      # of the message in sending
+        self.number = 0         # of the message's first frame
+        self.oldest = 0         # place of the oldest unacknowledged frame
+        self.next = 0           # place of the frame to send next
+        self.high = 0           # frames of the message ever handed over
+        self.repeats = 0
+        self.gap = self.wait = self.hold = 0
+
+    def unacknowledged(self):
+        return self.high - self.oldest
+
+    def send(self, length):
+        if self.length is not None:
+            return 5
+        if not 1 <= length <= LONGEST:
+            return 6
+        self.length = length
+        self.oldest = self.next = self.high = 0
+        return 0
+
+    def due(self):
+        return self.length is not None and not (self.gap or self.wait or self.hold)
+
+    def hand_over(self, message, t1):
+        """The next frame; the caller has seen that one is due and that the message has the right length."""
+        frame, asks = cut(message, self.next, self.block, (self.number + self.next) % 16)
+        self.next += 1
+        self.high = max(self.high, self.next)
+        self.gap = self.peer_gap
+        if asks:
+            self.wait = t1
+        return frame
+
+    def ack(self, ready, number, settings):
+        """The number, and whether the message is done."""
+        if self.length is None or self.hold:
+            return 12, None
+        distance = (number - self.number - self.oldest) % 16
+        if distance > self.unacknowledged() or (distance == 0 and ready):
+            return 12, None
+        if distance > 0:
+            self.repeats = 0
+        elif self.repeats == settings.repeats:
+            return 8, None
+        else:
+            self.repeats += 1
+        self.oldest += distance
+        self.next = self.oldest
+        self.wait = 0
+        if not ready:
+            self.hold = settings.twait
+        if self.oldest < frames_of(self.length):
+            return 0, None
+        self.number = (self.number + self.oldest) % 16
+        self.length = None
+        self.oldest = self.next = self.high = 0
+        return 0, "done"
+
+    def elapse(self, time, settings):
+        """True if the repeats are used up."""
+        ends = 0 < self.wait <= time
+        self.gap = max(0, self.gap - time)
+        self.hold = max(0, self.hold - time)
+        self.wait = max(0, self.wait - time)
+        if ends and self.repeats == settings.repeats:
+            return True
+        if ends:
+            self.repeats += 1
+            self.next = self.oldest
+        return False
+
+
+THROWN = "thrown away"      # up to and including the next EOM
+
+
+class Receiver:
+    """The receiving half of an open connection."""
+
+    def __init__(self):
+        self.expected = 0
+        self.course = None      # the message begun: None, THROWN, or declared length and bytes so far
+        self.complete = None    # length of the message that waits untaken
+        self.place = (0, None)  # what a break returns to: expected and course
+        self.ack = None         # the due Ack
+
+    def data(self, data, buffer):
+        asks, last, number = not data[0] & 0x20, bool(data[0] & 0x10), data[0] & 0x0F
+        waited = self.complete is not None
+        ended = False
+        if number != self.expected:
+            answer = 12
+        elif waited:
+            answer = 5
+        else:
+            if type(self.course) is tuple and len(buffer) < self.course[0]:
+                return 7
+            answer = self.in_order(data[1:], last, buffer)
+            self.expected = (self.expected + 1) % 16
+            ended = last
+        if asks:
+            self.ack = (0x90 if waited else 0xB0) | self.expected
+        if asks or ended:
+            self.place = (self.expected, self.course)
+        return answer
+
+    def in_order(self, payload, last, buffer):
+        """Uses the frame or throws it away; a later frame has been found to have buffer enough."""
+        if self.course == THROWN:
+            self.course = None if last else THROWN
+            return 0
+        answer = 0
+        if self.course is None:
+            declared, fill, body = int.from_bytes(payload[:2], "big"), 0, payload[2:]
+            if len(payload) < 2 or not 1 <= declared <= LONGEST:
+                answer = 9
+        else:
+            declared, fill = self.course
+            body = payload
+        reached = fill + len(body)
+        if reached > declared or last != (reached == declared):
+            answer = 9
+        if answer == 0 and len(buffer) < declared:
+            answer = 7
+        if answer:
+            self.course = None if last else THROWN
+            return answer
+        buffer[fill:reached] = body
+        self.course = None if last else (declared, reached)
+        self.complete = declared if last else None
+        return 0
+
+    def go_back(self):
+        """A break: what was used since the place is to come again."""
+        self.expected, self.course = self.place
+
+    def take(self, buffer):
+        if self.complete is None:
+            return 5, None
+        if len(buffer) < self.complete:
+            return 7, None
+        message = bytes(buffer[:self.complete])
+        self.complete = None
+        return 0, message
+
+
+class Connection:
+    """The record. Its phase is closed, setup (the D0 is awaited), parameters (the A1 is awaited) or open."""
+
+    def __init__(self):
+        self.shut(None)
+
+    def shut(self, bye):
+        """A closed record keeps nothing but the A8 that is due, if the transmit ID is given."""
+        self.__dict__.clear()
+        self.phase = "closed"
+        self.bye = bye
+
+    # The calls
+
+    def open(self, settings):
+        if self.phase != "closed":
+            return 4, None
+        if not settings.good():
+            return 10, None
+        self.__dict__.clear()
+        self.settings = settings
+        self.begin("setup")
+        return 0, None
+
+    def begin(self, phase):
+        """A phase of the opening, with its request due."""
+        self.phase = phase
+        self.asking = True      # the request is due
+        self.asked = False      # it was handed over at least once
+        self.repeats = 0
+        self.timer = 0
+
+    def listens_on(self):
+        return SETUP_ID + self.settings.unit if self.phase == "setup" else self.settings.rx
+
+    def arrive(self, ident, data, buffer):
+        if self.phase == "closed":
+            return 4, None
+        if ident != self.listens_on():
+            return 3, None
+        if self.phase == "setup":
+            return self.arrive_setup(data)
+        kind = kind_of(data)
+        if kind is None:
+            return 1, None
+        if kind == "disconnect":
+            self.shut(self.tx)
+            return 0, None
+        if self.phase == "parameters":
+            return self.arrive_parameters(kind, data)
+        answer = self.arrive_open(kind, data, buffer)
+        if answer[0] == 8:
+            self.shut(None)
+        elif answer[0] == 0:
+            self.quiet = self.settings.interval
+        return answer
+
+    def arrive_setup(self, data):
+        own = self.settings.rx.to_bytes(2, "little")
+        if len(data) != 7 or data[0] != 0x00:
+            return 1, None
+        positive = data[1] == 0xD0 and data[2:4] == own and data[5] <= 0x07 and data[6] == 0x01
+        if not positive and data[1] not in (0xD6, 0xD7, 0xD8):
+            return 1, None
+        if not self.asked:
+            return 4, None
+        if not positive:
+            self.shut(None)
+            return 11, data[1]
+        self.tx = int.from_bytes(data[4:6], "little")
+        self.begin("parameters")
+        return 0, None
+
+    def arrive_parameters(self, kind, data):
+        if kind != "A1" or not self.asked:
+            return 4, None
+        if not 1 <= data[1] <= 15:
+            return 2, None
+        settings, tx = self.settings, self.tx
+        self.__dict__.clear()
+        self.phase, self.settings, self.tx = "open", settings, tx
+        self.sender = Sender(min(settings.block, data[1]), tenths(data[4]))
+        self.receiver = Receiver()
+        self.answering = False          # our A1 is due
+        self.test_out = False
+        self.test_again = False         # a repeated test is due
+        self.test_wait = 0
+        self.unanswered = 0
+        self.quiet = settings.interval  # what is left of the test interval
+        return 0, None
+
+    def arrive_open(self, kind, data, buffer):
+        if kind == "A0":
+            return 4, None
+        if kind == "A1":
+            if not self.test_out:
+                return 4, None
+            if not 1 <= data[1] <= 15:
+                return 2, None
+            self.test_out = self.test_again = False
+            self.test_wait = self.unanswered = 0
+            return 0, None
+        if kind == "test":
+            self.answering = True
+            return 0, None
+        if kind == "break":
+            self.receiver.go_back()
+            return 0, None
+        if kind == "ack":
+            return self.sender.ack(bool(data[0] & 0x20), data[0] & 0x0F, self.settings)
+        return self.receiver.data(data, buffer), None
+
+    def elapse(self, time):
+        lost = False
+        if self.phase in ("setup", "parameters"):
+            ends = 0 < self.timer <= time
+            self.timer = max(0, self.timer - time)
+            if ends:
+                lost = self.repeats == self.settings.mntc
+                self.repeats += 1
+                self.asking = True
+        elif self.phase == "open":
+            lost = self.sender.elapse(time, self.settings)
+            ends = 0 < self.test_wait <= time
+            self.test_wait = max(0, self.test_wait - time)
+            self.quiet = max(0, self.quiet - time)
+            if ends:
+                lost = lost or self.unanswered == self.settings.tests
+                self.unanswered += 1
+                self.test_again = True
+        if lost:
+            self.shut(None)
+            return 8, None
+        return 0, None
+
+    def test_due(self):
+        if self.sender.unacknowledged():
+            return False
+        if self.test_out:
+            return self.test_again
+        return self.settings.interval != 0 and self.quiet == 0
+
+    def due(self, message):
+        """At most one frame: its ID and bytes."""
+        if self.phase == "closed":
+            if self.bye is None:
+                return 0, None
+            frame = self.bye, bytes([0xA8])
+            self.shut(None)
+            return 0, frame
+        s = self.settings
+        if self.phase in ("setup", "parameters"):
+            if not self.asking:
+                return 0, None
+            self.asking, self.asked, self.timer = False, True, s.te
+            if self.phase == "setup":
+                return 0, (SETUP_ID, bytes([s.unit, 0xC0, 0x00, 0x10, s.rx & 0xFF, s.rx >> 8, 0x01]))
+            return 0, (self.tx, bytes([0xA0, s.block, s.t1, 0xFF, s.t3, 0xFF]))
+        if self.answering:
+            self.answering = False
+            data = bytes([0xA1, s.block, s.t1, 0xFF, s.t3, 0xFF])
+        elif self.test_due():
+            self.test_out, self.test_again, self.test_wait = True, False, tenths(s.t1)
+            data = bytes([0xA3])
+        elif self.receiver.ack is not None:
+            data = bytes([self.receiver.ack])
+            self.receiver.ack = None
+        elif self.sender.due():
+            if len(message) != self.sender.length:
+                return 7, None
+            data = self.sender.hand_over(message, tenths(s.t1))
+        else:
+            return 0, None
+        self.quiet = s.interval
+        return 0, (self.tx, data)
+
+    def send(self, message):
+        if self.phase != "open":
+            return 4, None
+        return self.sender.send(len(message)), None
+
+    def take(self, buffer):
+        if self.phase != "open":
+            return 4, None
+        return self.receiver.take(buffer)
+
+    def close(self):
+        if self.phase == "closed":
+            return 4, None
+        self.shut(self.tx if self.phase != "setup" else None)
+        return 0, None
+
+
+# The console
+
+LINE = 16000            # characters in a line
+BUFFER = 4096
+WIDTHS = (65535, 255, 255, 255, 255, 65535, 255, 255, 65535, 65535, 255)    # of the settings, as they are typed
+TIME = 18446744073709551615
+DIGITS = frozenset(b"0123456789")
+HEX = frozenset(b"0123456789abcdefABCDEF")
+
+
+class Malformed(Exception):
+    pass
+
+
+def decimal(word, most):
+    digits = word.lstrip(b"0") or b"0"
+    if not DIGITS.issuperset(word) or len(digits) > 20 or int(digits) > most:
+        raise Malformed
+    return int(digits)
+
+
+def identifier(word):
+    if len(word) > 4 or not HEX.issuperset(word):
+        raise Malformed
+    return int(word, 16)
+
+
+def octets(words):
+    if not words:
+        raise Malformed
+    if words == [b"-"]:
+        return b""
+    if any(len(word) % 2 or not HEX.issuperset(word) for word in words):
+        raise Malformed
+    return bytes.fromhex(b"".join(words).decode())
+
+
+def no_more(words):
+    if words:
+        raise Malformed
+
+
+def one(words):
+    if len(words) != 1:
+        raise Malformed
+    return words[0]
+
+
+def pairs(data):
+    return data.hex(" ").upper()
+
+
+class Console:
+    def __init__(self, lines=0):
+        self.lines = lines      # read so far
+        self.new()
+
+    def new(self):
+        self.connection = Connection()
+        self.storage = bytearray(BUFFER)
+        self.accepted = b""
+        self.lend(1024)
+
+    def lend(self, room):
+        self.buffer = memoryview(self.storage)[:room]
+
+    def answer(self, line):
+        """The answer to one line (bytes, without its end), or None if it has none."""
+        self.lines += 1
+        try:
+            if len(line) > LINE:
+                raise Malformed
+            if line.startswith(b"#"):
+                return None
+            words = [word for word in line.split(b" ") if word]
+            if not words:
+                return None
+            return self.call(words[0], words[1:])
+        except Malformed:
+            return "error line %d" % self.lines
+
+    def call(self, name, words):
+        connection = self.connection
+        if name == b"frame":
+            if not words:
+                raise Malformed
+            result = connection.arrive(identifier(words[0]), octets(words[1:]), self.buffer)
+        elif name == b"due":
+            result = connection.due(octets(words) if words else self.accepted)
+        elif name == b"time":
+            result = connection.elapse(decimal(one(words), TIME))
+        elif name == b"send":
+            message = octets(words)
+            result = connection.send(message)
+            if result[0] == 0:
+                self.accepted = message
+        elif name == b"take":
+            no_more(words)
+            result = connection.take(self.buffer)
+        elif name == b"close":
+            no_more(words)
+            result = connection.close()
+        elif name == b"open":
+            if words and len(words) != len(WIDTHS):
+                raise Malformed
+            result = connection.open(Settings(*map(decimal, words, WIDTHS)))
+        elif name == b"room":
+            self.lend(decimal(one(words), BUFFER))
+            result = 0, None
+        elif name == b"buffer":
+            no_more(words)
+            return pairs(self.buffer)
+        elif name == b"new":
+            no_more(words)
+            self.new()
+            result = 0, None
+        else:
+            raise Malformed
+        return spoken(*result)
+
+
+def spoken(number, value):
+    if value is None:
+        return "%d" % number
+    if value == "done":
+        return "%d done" % number
+    if number == 11:
+        return "11 %02X" % value
+    if type(value) is tuple:
+        return "%d %03X %s" % (number, value[0], pairs(value[1]))
+    return "%d %s" % (number, pairs(value))
+
+
+# The other end
+
+class Car:
+    """A unit in the car, for realistic traffic: it answers the opening, acknowledges, sends messages of its own,
+    is not ready now and then, tests, breaks off and disconnects. `habits` gives each its chance (0 if not named):
+    refuse, refuse_data, hold, test, break, bye, speak."""
+
+    def __init__(self, rng, tx, block, t3, habits):
+        self.rng, self.tx, self.block, self.t3, self.habits = rng, tx, block, t3, habits
+        self.rx = None          # the ID it sends on; None while no channel is open
+        self.sent = []          # its messages that were acknowledged whole
+        self.heard = []         # the messages that it received
+
+    def chance(self, habit):
+        return self.rng.random() < self.habits.get(habit, 0)
+
+    def start(self):
+        self.agreed = self.block
+        self.parameters = False
+        self.expected, self.stream = 0, b""
+        self.message, self.number = None, 0
+        self.oldest = self.next = self.high = 0
+        self.waiting = self.pausing = False
+
+    def hear(self, ident, data):
+        """What it sends at once, as IDs and bytes."""
+        if ident == SETUP_ID and len(data) == 7 and data[1] == 0xC0:
+            unit, own = data[0], data[4:6]
+            if self.chance("refuse"):
+                return [(SETUP_ID + unit, bytes([0, self.rng.choice((0xD6, 0xD7, 0xD8)), *own, 0, 0x10, 1]))]
+            self.start()
+            self.rx = own[0] | (own[1] & 7) << 8
+            return [(SETUP_ID + unit, bytes([0, 0xD0, *own, self.tx & 0xFF, self.tx >> 8, 1]))]
+        if self.rx is None or ident != self.tx:
+            return []
+        kind = kind_of(data)
+        if kind == "A0":
+            self.start()
+            self.agreed = min(self.block, data[1])
+            self.parameters = True
+        if kind in ("A0", "test"):
+            return [(self.rx, bytes([0xA1, self.block, 0x8A, 0xFF, self.t3, 0xFF]))]
+        if kind == "disconnect":
+            rx, self.rx = self.rx, None
+            return [(rx, b"\xA8")]
+        if kind == "ack":
+            self.hear_ack(data[0])
+        elif kind == "data":
+            return self.hear_data(data)
+        return []
+
+    def hear_ack(self, first):
+        distance = (first - self.number - self.oldest) % 16
+        if self.message is None or distance > self.high - self.oldest:
+            return
+        if distance or not first & 0x20:
+            self.oldest += distance
+            self.next, self.waiting = self.oldest, False
+            self.pausing = not first & 0x20
+        if self.oldest == frames_of(len(self.message)):
+            self.sent.append(self.message)
+            self.number = (self.number + self.oldest) % 16
+            self.message, self.oldest, self.next, self.high = None, 0, 0, 0
+
+    def hear_data(self, data):
+        ready = not self.chance("hold")
+        if data[0] & 0x0F == self.expected and (ready or not self.chance("refuse_data")):
+            self.expected = (self.expected + 1) % 16
+            self.stream += data[1:]
+            if data[0] & 0x10:
+                if len(self.stream) > 2 and int.from_bytes(self.stream[:2], "big") == len(self.stream) - 2:
+                    self.heard.append(self.stream[2:])
+                self.stream = b""
+        if data[0] & 0x20:
+            return []
+        return [(self.rx, bytes([(0xB0 if ready else 0x90) | self.expected]))]
+
+    def work(self, lengths):
+        """What it sends of its own accord: at most one frame; None if it has nothing to say."""
+        if self.rx is None or not self.parameters:
+            return None
+        if self.chance("test"):
+            return self.rx, b"\xA3"
+        if self.chance("bye"):
+            rx, self.rx = self.rx, None
+            return rx, b"\xA8"
+        if self.message is None:
+            if not self.chance("speak"):
+                return None
+            self.message = self.rng.randbytes(self.rng.choice(lengths))
+        elif self.chance("break"):
+            self.next, self.waiting = self.oldest, False
+            return self.rx, b"\xA4"
+        if self.waiting or self.pausing:
+            return None
+        frame, self.waiting = cut(self.message, self.next, self.agreed, (self.number + self.next) % 16)
+        self.next += 1
+        self.high = max(self.high, self.next)
+        return self.rx, frame
+
+    def tire(self):
+        """Its wait has run out: it goes on from the oldest unacknowledged frame."""
+        if self.rx is not None:
+            self.waiting = self.pausing = False
+            self.next = self.oldest
+
+
+def main():
+    console = Console()
+    for line in sys.stdin.buffer:
+        answer = console.answer(line[:-1] if line.endswith(b"\n") else line)
+        if answer is not None:
+            sys.stdout.write(answer + "\n")
+            sys.stdout.flush()
+
+
+if __name__ == "__main__":
+    main()

@@ -1,0 +1,257 @@
+"""Which places of the rules a scenario reaches: both sides of each limit, each row, each end of a timer."""
+
+import model
+from model import Settings, kind_of
+
+
+def label(line, answer):
+    if line.split()[0] == b"buffer" and not answer.startswith("error"):
+        return "buffer"
+    words = answer.split()
+    if words[0] == "error":
+        return "error"
+    if words[0] == "11" or words[-1] == "done":
+        return answer
+    if words[0] == "0" and len(words) > 1:
+        return "0 message" if line.split()[0] == b"take" else "0 frame"
+    return words[0]
+
+
+def near(value, limit):
+    return {limit - 1: "one less", limit: "equal", limit + 1: "one more"}.get(value)
+
+
+def place_of(console, line):
+    """The places at a limit or in a rule that this line is at, before it is answered."""
+    words = [word for word in line.split(b" ") if word]
+    c = console.connection
+    if c.phase == "closed" and c.bye is not None:
+        yield "A8 due, %s" % words[0].decode("latin-1")
+    try:
+        if words[0] == b"open" and len(words) == 12 and c.phase == "closed":
+            given = Settings(*map(int, words[1:]))
+            for name, value, (low, high) in zip(given._fields, given, model.RANGES):
+                if value in (low - 1, low, high, high + 1):
+                    yield "open %s %d" % (name, value)
+            if given.t1 in (0x40, 0x41, 0x80, 0xC0, 0xC1):
+                yield "open t1 %d" % given.t1
+        elif words[0] == b"frame":
+            yield from place_of_frame(console, model.identifier(words[1]), model.octets(words[2:]))
+        elif words[0] == b"time":
+            span = model.decimal(words[1], model.TIME)
+            for name, left in timers(c).items():
+                if near(span, left):
+                    yield "time %s %s" % (name, near(span, left))
+                if span >= left:
+                    yield from place_of_end(c, name)
+            if span == model.TIME:
+                yield "time longest, %s" % c.phase
+        elif words[0] == b"send" and c.phase == "open" and c.sender.length is None:
+            length = len(model.octets(words[1:]))
+            if length in (0, 1, model.LONGEST, model.LONGEST + 1):
+                yield "send %d" % length
+            if c.sender.hold:
+                yield "send in a hold"
+        elif words[0] == b"take" and c.phase == "open" and c.receiver.complete:
+            if c.receiver.complete in (1, model.LONGEST):
+                yield "take %d" % c.receiver.complete
+            if near(len(console.buffer), c.receiver.complete):
+                yield "take room %s" % near(len(console.buffer), c.receiver.complete)
+        elif words[0] == b"close":
+            yield "close %s" % c.phase
+        elif words[0] == b"due" and c.phase == "open":
+            if c.test_due() and c.receiver.ack and c.answering and c.sender.due():
+                yield "due all kinds"
+            if c.test_again and c.sender.unacknowledged():
+                yield "due test kept back"
+            if c.sender.length and c.test_due():
+                yield "due test in a message"
+    except (model.Malformed, IndexError, ValueError):
+        return
+
+
+def place_of_end(c, name):
+    """A timer that ends, with what its count says."""
+    if name == "T_E":
+        count, most = c.repeats, c.settings.mntc
+    elif name == "wait":
+        count, most = c.sender.repeats, c.settings.repeats
+    elif name == "test":
+        count, most = c.unanswered, c.settings.tests
+    else:
+        return
+    if count == most:
+        yield "%s ends, count %s" % (name, "0 of 0" if most == 0 else "255 of 255" if most == 255 else "full")
+    elif count == most - 1:
+        yield "%s ends, count one short" % name
+    else:
+        yield "%s ends" % name
+
+
+def place_of_frame(console, ident, data):
+    c = console.connection
+    if c.phase == "closed":
+        yield "frame closed"
+        return
+    if ident != c.listens_on():
+        return
+    yield "bytes %s %d" % (c.phase, len(data))
+    if c.phase == "setup":
+        if len(data) == 7 and data[1] in (0xD0, 0xD6, 0xD7, 0xD8):
+            yield "reply %02X, asked %s, due %s" % (data[1], c.asked, c.asking)
+        return
+    kind = kind_of(data)
+    yield "kind %s %s" % (c.phase, kind)
+    if kind == "A1" and data[1] in (0, 1, 15, 16):
+        if c.phase == "parameters":
+            yield "A1 block %d, asked %s, due %s" % (data[1], c.asked, c.asking)
+        else:
+            yield "A1 block %d, test out %s, again %s" % (data[1], c.test_out, c.test_again)
+    if c.phase != "open":
+        return
+    if kind == "ack":
+        s = c.sender
+        ready = "ready" if data[0] & 0x20 else "not ready"
+        if s.length is None or s.hold:
+            yield "ack %s, message %s, hold %s" % (ready, s.length is not None, s.hold > 0)
+            return
+        distance, count = (data[0] - s.number - s.oldest) % 16, s.unacknowledged()
+        where = "0" if distance == 0 else "in range" if distance <= count else "beyond"
+        yield "ack %s, distance %s, wait %s" % (ready, where, s.wait > 0)
+        if count in (14, 15) and distance == 15:
+            yield "ack %s, distance 15 of %d" % (ready, count)
+        if distance == 0 and ready == "not ready":
+            most = c.settings.repeats
+            yield "ack not ready, count %s" % ("full" if s.repeats == most else
+                                               "one short" if s.repeats == most - 1 else "below")
+            if not count:
+                yield "ack not ready, nothing unacknowledged"
+        if 0 < distance < count and s.next < s.high:
+            yield "ack in a repeat"
+    elif kind == "break":
+        r = c.receiver
+        yield "break, back %s, %s to %s, message waits %s" % (
+            r.expected != r.place[0], shape(r.course), shape(r.place[1]), r.complete is not None)
+    elif kind == "data":
+        r = c.receiver
+        asks, last = not data[0] & 0x20, bool(data[0] & 0x10)
+        order = data[0] & 15 == r.expected
+        yield "data in order %s, message waits %s, asks %s" % (order, r.complete is not None, asks)
+        if not order or r.complete is not None:
+            return
+        room = len(console.buffer)
+        if type(r.course) is tuple:
+            declared, reached = r.course[0], r.course[1] + len(data) - 1
+            if near(room, declared):
+                yield "later frame, room %s" % near(room, declared)
+        elif r.course is None and len(data) >= 3:
+            declared, reached = data[1] << 8 | data[2], len(data) - 3
+            if declared in (0, 1, model.LONGEST, model.LONGEST + 1):
+                yield "declared %d" % declared
+            if near(room, declared):
+                yield "first frame, room %s" % near(room, declared)
+        else:
+            yield "%s frame, %d bytes, last %s" % ("thrown" if r.course else "first", len(data), last)
+            return
+        if 1 <= declared <= model.LONGEST and room >= declared:
+            yield "%s frame %s, last %s, asks %s" % (
+                "first" if r.course is None else "later",
+                "short" if reached < declared else "full" if reached == declared else "over", last, asks)
+
+
+def shape(course):
+    return "nothing" if course is None else "thrown" if course == model.THROWN else "begun"
+
+
+def timers(c):
+    """The running timers and what is left of each."""
+    if c.phase == "open":
+        left = {"T3": c.sender.gap, "wait": c.sender.wait, "hold": c.sender.hold,
+                "test": c.test_wait, "interval": c.quiet}
+    elif c.phase == "closed":
+        left = {}
+    else:
+        left = {"T_E": c.timer}
+    return {name: value for name, value in left.items() if value}
+
+
+def picture(console):
+    """All that a refusal must leave alone; the due Ack and the place of a break stand apart."""
+    c = dict(console.connection.__dict__)
+    sender = tuple(c.pop("sender").__dict__.items()) if "sender" in c else None
+    receiver = dict(c.pop("receiver").__dict__) if "receiver" in c else {}
+    asked = receiver.pop("ack", None), receiver.pop("place", None)
+    return (tuple(c.items()), sender, tuple(receiver.items()), bytes(console.storage), len(console.buffer)), asked
+
+
+# What a whole run must have reached: both sides of each limit, each row, each end of a timer.
+REACHED = """
+open rx 0: 0|open rx 2047: 0|open rx 2048: 10|open unit 0: 0|open unit 239: 0|open unit 240: 10|open block 0: 10
+open block 1: 0|open block 15: 0|open block 16: 10|open t1 0: 10|open t1 64: 10|open t1 65: 0|open t1 128: 10
+open t1 192: 10|open t1 193: 0|open t1 255: 0|open t3 0: 0|open t3 255: 0|open te 0: 10|open te 1: 0|open te 10000: 0
+open te 10001: 10|open mntc 0: 0|open mntc 255: 0|open repeats 0: 0|open repeats 255: 0|open twait 0: 10
+open twait 1: 0|open twait 65535: 0|open interval 0: 0|open interval 65535: 0|open tests 0: 0|open tests 255: 0
+A1 block 0, asked True, due False: 2|A1 block 1, asked True, due False: 0|A1 block 15, asked True, due False: 0
+A1 block 16, asked True, due False: 2|A1 block 15, asked False, due True: 4|A1 block 16, asked False, due True: 4
+A1 block 15, asked True, due True: 0|A1 block 0, test out True, again False: 2
+A1 block 1, test out True, again False: 0|A1 block 15, test out True, again False: 0
+A1 block 16, test out True, again False: 2|A1 block 15, test out True, again True: 0
+A1 block 15, test out False, again False: 4|A1 block 16, test out False, again False: 4|send 0: 6|send 1: 0
+send 1024: 0|send 1025: 6|send in a hold: 0|declared 0: 9|declared 1: 0|declared 1024: 0|declared 1025: 9
+first frame, room equal: 0|first frame, room one less: 7|first frame, room one less: 9|first frame, room one more: 0
+later frame, room equal: 0|later frame, room one less: 7|later frame, room one more: 0|take 1: 0|take 1024: 0
+take room equal: 0|take room one less: 7|take room one more: 0|ack ready, distance 15 of 15: 0
+ack ready, distance 15 of 15: 0 done|ack ready, distance 15 of 14: 12|ack not ready, distance 15 of 15: 0
+ack not ready, distance 15 of 14: 12|ack ready, distance 0, wait True: 12|ack ready, distance in range, wait True: 0
+ack ready, distance in range, wait True: 0 done|ack ready, distance beyond, wait True: 12
+ack ready, distance 0, wait False: 12|ack ready, distance in range, wait False: 0
+ack ready, distance in range, wait False: 0 done|ack not ready, distance 0, wait True: 0
+ack not ready, distance 0, wait True: 8|ack not ready, distance in range, wait True: 0
+ack not ready, distance in range, wait True: 0 done|ack not ready, distance beyond, wait True: 12
+ack not ready, count full: 8|ack not ready, count one short: 0|ack not ready, count below: 0
+ack not ready, nothing unacknowledged: 0|ack in a repeat: 0|ack ready, message True, hold True: 12
+ack not ready, message True, hold True: 12|ack ready, message False, hold False: 12
+ack not ready, message False, hold False: 12|ack ready, message False, hold True: 12|time T_E one less: 0
+time T_E equal: 0|time T_E equal: 8|time T_E one more: 0|time wait one less: 0|time wait equal: 0|time wait equal: 8
+time hold one less: 0|time hold equal: 0|time T3 one less: 0|time T3 equal: 0|time test one less: 0|time test equal: 0
+time test equal: 8|time interval one less: 0|time interval equal: 0|time longest, open: 0|time longest, open: 8
+time longest, setup: 0|time longest, parameters: 0|T_E ends, count 0 of 0: 8|T_E ends, count full: 8
+T_E ends, count one short: 0|wait ends, count 0 of 0: 8|wait ends, count full: 8|wait ends, count one short: 0
+test ends, count 0 of 0: 8|test ends, count full: 8|test ends, count one short: 0|reply D0, asked True, due False: 0
+reply D0, asked True, due True: 0|reply D0, asked False, due True: 4|reply D0, asked True, due False: 1
+reply D0, asked False, due True: 1|reply D6, asked True, due False: 11|reply D7, asked True, due False: 11
+reply D8, asked True, due False: 11|reply D6, asked False, due True: 4|reply D6, asked True, due False: 1
+kind parameters data: 4|kind parameters ack: 4|kind parameters A0: 4|kind parameters test: 4|kind parameters break: 4
+kind parameters disconnect: 0|kind parameters None: 1|kind open A0: 4|kind open None: 1|kind open disconnect: 0
+kind open test: 0|close closed: 4|close setup: 0|close parameters: 0|close open: 0|frame closed: 4|A8 due, time: 0
+A8 due, frame: 4|A8 due, close: 4|A8 due, send: 4|A8 due, take: 4|A8 due, open: 10|A8 due, open: 0|A8 due, due: 0
+due all kinds: 0|due test kept back: 0|due test in a message: 0|first frame, 2 bytes, last True: 9
+first frame, 2 bytes, last False: 9|thrown frame, 2 bytes, last False: 0|thrown frame, 8 bytes, last True: 0
+first frame short, last False, asks True: 0|first frame short, last True, asks True: 9
+first frame full, last False, asks True: 9|first frame full, last True, asks False: 0
+first frame over, last True, asks True: 9|first frame over, last False, asks False: 9
+later frame short, last False, asks True: 0|later frame short, last True, asks True: 9
+later frame full, last False, asks True: 9|later frame full, last True, asks True: 0
+later frame over, last True, asks True: 9|later frame over, last False, asks False: 9
+data in order True, message waits True, asks True: 5|data in order True, message waits True, asks False: 5
+data in order False, message waits True, asks True: 12|data in order False, message waits False, asks True: 12
+data in order False, message waits False, asks False: 12|break, back True, begun to begun, message waits False: 0
+break, back True, begun to nothing, message waits False: 0|break, back True, thrown to nothing, message waits False: 0
+break, back True, thrown to begun, message waits False: 0|break, back True, thrown to thrown, message waits False: 0
+break, back False, nothing to nothing, message waits True: 0|carried to the car|carried to the box
+"""
+
+
+ANSWERS = ("0", "0 done", "0 frame", "0 message", *map(str, range(1, 11)), "11 D6", "11 D7", "11 D8", "12",
+           "buffer", "error")
+
+
+def summary(tally):
+    return "%d calls in %d scenarios, all alike; answers: %s" % (
+        tally["calls"], tally["scenarios"], ", ".join("%s x%d" % (name, tally[name]) for name in ANSWERS))
+
+
+def missing(tally):
+    lengths = ["bytes %s %d: 1" % (phase, length) for phase in ("setup", "parameters", "open") for length in range(13)]
+    places = [place for line in REACHED.strip().split("\n") for place in line.split("|")]
+    return [name for name in [*ANSWERS, *lengths, *places] if not tally[name]]

@@ -1,0 +1,798 @@
+"""Random scenarios for a console: lines, and the model's answer to each. The model leads them, so that most lines
+are at the edge of a rule."""
+
+import model
+from model import Settings
+from reached import label, picture, place_of, timers
+
+HUGE = (65535, 65536, 2**31, 2**32 - 1, 2**32, 2**63, model.TIME - 1, model.TIME, model.TIME, model.TIME)
+LENGTHS = (1, 1, 2, 4, 5, 6, 11, 12, 13, 26, 100, 102, 103, 104, 105, 110, 208, 209)
+BEYOND = tuple(width + 1 for width in model.WIDTHS)
+
+
+class Play:
+    """One scenario: its lines, and the model's answer to each."""
+
+    def __init__(self, rng, start, tally, check):
+        self.rng, self.tally, self.check = rng, tally, check
+        self.console = model.Console(start)
+        self.lines, self.expected = [], []
+        self.say("new")
+
+    @property
+    def c(self):
+        return self.console.connection
+
+    def say(self, line):
+        if type(line) is str:
+            line = line.encode()
+        places = list(place_of(self.console, line)) if line.strip(b" ") and line[:1] != b"#" else []
+        before = picture(self.console) if self.check else None
+        answer = self.console.answer(line)
+        self.lines.append(line)
+        self.expected.append(answer)
+        if answer is None:
+            return None
+        self.tally[label(line, answer)] += 1
+        number = answer.split(" ")[0]
+        for place in places:
+            self.tally["%s: %s" % (place, answer if answer == "0 done" else number)] += 1
+        if self.check:
+            self.left_alone(line, number, before)
+        return answer
+
+    def left_alone(self, line, number, before):
+        """What a refusal must not change."""
+        after = picture(self.console)
+        frame = line.split()[0] == b"frame"
+        later = type(dict(before[0][2]).get("course")) is tuple
+        if number in ("1", "2", "3", "4", "6", "10", "error"):
+            same = before == after
+        elif number in ("5", "12"):
+            same = before[0] == after[0] and (frame or before[1] == after[1])
+        elif number == "7":
+            same = before[0][3:] == after[0][3:] if frame and not later else before == after
+        elif number == "9":
+            same = before[0][3:] == after[0][3:]
+        else:
+            return
+        assert same, (line, number, before, after)
+
+    # Writing lines
+
+    def typed(self, data):
+        """Hex pairs of either case, with blanks between or none."""
+        style = self.rng.random()
+        if not data:
+            return "-"
+        if style < 0.8:
+            return data.hex(" ").upper()
+        if style < 0.85:
+            return data.hex()
+        if style < 0.9:
+            return data.hex().upper()
+        return "".join("%02X" % byte if self.rng.random() < 0.5 else "%02x%s" % (byte, self.rng.choice(("", " ", "  ")))
+                       for byte in data)
+
+    def frame(self, ident, data):
+        style = self.rng.choice(("%X", "%03X", "%03X", "%03X", "%04X", "%x"))
+        return self.say("frame %s %s" % (style % ident, self.typed(bytes(data))))
+
+    def heard(self, *data):
+        """A frame on the ID that the record listens on; any, if it is closed."""
+        return self.frame(0x300 if self.c.phase == "closed" else self.c.listens_on(), data)
+
+    def open(self, settings):
+        return self.say("open " + " ".join(map(str, settings)))
+
+    def due(self):
+        """Hands over: None, or the ID and bytes."""
+        words = self.say("due").split(" ")
+        return (int(words[1], 16), bytes.fromhex("".join(words[2:]))) if len(words) > 1 else None
+
+    def wait(self, span):
+        return self.say("time %d" % span)
+
+    def bytes(self, count):
+        return self.rng.randbytes(count)
+
+    # Settings and opening
+
+    def settings(self, **fixed):
+        pick, some = self.rng.choice, self.rng.randrange
+        t1 = pick((0x8A, 0x8A, 0x01, 0x41, 0x7F, 0xC1, 0xFF, some(256)))
+        chosen = Settings(
+            rx=pick((0x300, 0x300, 0x300, 0, 0x7FF, 0x200, 0x201, some(0x800))),
+            unit=pick((1, 1, 0, 0xEF, some(0xF0))),
+            block=pick((15, 15, 1, 2, 3, some(1, 16), some(1, 16))),
+            t1=t1 if t1 & 0x3F else 0x8A,
+            t3=pick((0x32, 0, 0xFF, some(256))),
+            te=pick((1000, 1, 10000, some(1, 10001))),
+            mntc=pick((10, 0, 1, 2, 3, 255, some(256))),
+            repeats=pick((5, 5, 0, 1, 2, 255, some(256))),
+            twait=pick((1000, 1, 65535, some(1, 65536))),
+            interval=pick((10000, 0, 0, 1, 65535, some(65536))),
+            tests=pick((5, 0, 1, 2, 255, some(256))))
+        return chosen._replace(**fixed)
+
+    def odd_settings(self):
+        """One setting at a limit or beyond it; what does not fit the width is malformed."""
+        chosen = list(Settings() if self.rng.random() < 0.5 else self.settings())
+        at = self.rng.randrange(11)
+        low, high = model.RANGES[at]
+        choices = [low, high, max(0, low - 1), high + 1, model.WIDTHS[at], BEYOND[at], BEYOND[at] + low, 2**32 + low,
+                   2**64 + low]
+        if Settings._fields[at] == "t1":
+            choices += [0x00, 0x40, 0x80, 0xC0, 0x01, 0x41, 0x81, 0xC1]
+        chosen[at] = self.rng.choice(choices)
+        return chosen
+
+    def d0(self, tx):
+        own = self.c.settings.rx
+        return [0x00, 0xD0, own & 0xFF, own >> 8, tx & 0xFF, tx >> 8, 0x01]
+
+    def bad_reply(self):
+        """A reply to C0 with one thing wrong, or a refusal with anything where nothing is checked."""
+        reply = self.d0(self.rng.randrange(0x800))
+        way = self.rng.randrange(6)
+        if way == 0:
+            reply[self.rng.randrange(7)] ^= 1 << self.rng.randrange(8)
+        elif way == 1:
+            reply = reply[:self.rng.randrange(7)]
+        elif way == 2:
+            reply += self.bytes(self.rng.randrange(1, 6))
+        elif way == 3:
+            reply[self.rng.choice((3, 5))] |= 1 << self.rng.randrange(3, 8)
+        elif way == 4:
+            reply[1] = self.rng.choice((0xD1, 0xD5, 0xD9, 0xC0, 0xA1, self.rng.randrange(256)))
+        else:
+            reply[1] = self.rng.choice((0xD6, 0xD7, 0xD8))
+            reply[self.rng.choice((0, 2, 6))] = self.rng.randrange(256)
+            if self.rng.random() < 0.3:
+                reply = reply[:self.rng.randrange(2, 7)]
+        return self.heard(*reply)
+
+    def a1(self, block, t3):
+        return self.heard(0xA1, block, self.rng.randrange(256), self.rng.randrange(256), t3, self.rng.randrange(256))
+
+    def opening(self, settings=None, tx=0x740, block=15, t3=0, mess=0.0):
+        """Opens a connection; with mess it goes wrong on the way, and may end closed."""
+        if settings is None and self.rng.random() < 0.03:
+            self.say("open")
+        else:
+            self.open(settings or self.settings())
+        for _ in range(3000):
+            if self.c.phase in ("open", "closed"):
+                break
+            if self.rng.random() < mess:
+                self.opening_mishap(tx, block, t3)
+            elif self.c.asking:
+                self.due()
+            elif self.c.phase == "setup":
+                self.heard(*self.d0(tx))
+            else:
+                self.a1(block, t3)
+        return self.c.phase == "open"
+
+    def opening_mishap(self, tx, block, t3):
+        rng, setup = self.rng, self.c.phase == "setup"
+        way = rng.choices(list(MISHAPS), list(MISHAPS.values()))[0]
+        if way == "time":
+            self.time()
+        elif way == "due":
+            self.say("due" if rng.random() < 0.5 else "due " + self.typed(self.bytes(3)))
+        elif way == "reply":
+            self.heard(*self.d0(tx)) if setup else self.a1(block, t3)
+        elif way == "bad reply" and setup:
+            self.bad_reply()
+        elif way == "bad reply":
+            self.a1(rng.choice((0, 16, 0, 16, 255, rng.randrange(256))), t3)
+        elif way == "refusal" and setup:
+            self.heard(0x00, rng.choice((0xD6, 0xD7, 0xD8)), *self.bytes(5))
+        elif way == "other ID":
+            self.frame(rng.choice((0x200, 0x201, 0x300, 0x740, 0x7FF, 0xFFFF, rng.randrange(0x10000))),
+                       self.d0(tx) if setup else [0xA1, 15, 0x8A, 0xFF, 0x32, 0xFF])
+        elif way == "call":
+            self.say(rng.choice(("send 10 89", "send -", "take", "open", "open 2048 1 15 138 50 1000 10 5 1000 0 5")))
+        elif way == "junk":
+            self.junk()
+        elif way == "close":
+            self.say("close")
+        elif way == "A8":
+            self.heard(0xA8)
+        elif way == "other kind":
+            self.heard(*rng.choice(((0x00, 0x00, 0x01, 0x55), (0xB0,), (0x90,), (0xA3,), (0xA4,),
+                                    (0xA0, 15, 0x8A, 0xFF, 0x32, 0xFF), (0x10, 1))))
+        elif way == "silence":
+            phase = self.c.phase
+            for _ in range(rng.choice((3, 12, 300))):
+                if self.c.phase != phase:
+                    break
+                self.due()
+                if self.c.phase == phase and self.c.timer:
+                    self.wait(self.c.timer)
+        elif way == "odd line":
+            self.odd_line()
+        elif self.c.timer:
+            self.wait(rng.choice(HUGE))
+
+    # Single steps
+
+    def time(self):
+        running, way = list(timers(self.c).values()), self.rng.random()
+        if running and way < 0.8:
+            span = self.rng.choice(running) + self.rng.choice((0, 0, 0, 0, -1, -1, 1, self.rng.randrange(60)))
+        elif way < 0.4 or 0.84 < way < 0.9:
+            span = self.rng.choice(HUGE)
+        elif 0.8 < way < 0.84:
+            span = 0
+        else:
+            span = self.rng.randrange(200)
+        return self.wait(span)
+
+    def junk(self):
+        """Bytes of every length 0 to 12, most of them badly formed."""
+        first = self.rng.choice((0xA0, 0xA1, 0xA2, 0xA3, 0xA4, 0xA5, 0xA8, 0xAF, 0x40, 0x7F, 0x80, 0x8F, 0xC0, 0xD0,
+                                 0xFF, self.rng.randrange(0x90, 0xC0), self.rng.randrange(256)))
+        length = self.rng.randrange(13)
+        self.heard(*(bytes([first]) + self.bytes(length))[:length])
+
+    def send(self, lengths=LENGTHS):
+        self.say("send " + self.typed(self.bytes(self.rng.choice(lengths))))
+
+    def odd_send(self):
+        way = self.rng.choice((0, 0, 1, 1, 2, 3, 4))
+        length = (0, model.LONGEST + 1, model.LONGEST, self.rng.randrange(1, model.LONGEST + 1),
+                  self.rng.randrange(1026, 5000))[way]
+        self.send((length,))
+
+    def due_lending(self):
+        """Lends another message than the accepted one, or the same as given bytes."""
+        accepted = self.console.accepted
+        lent = self.rng.choice((accepted, self.bytes(len(accepted)), accepted[:-1], accepted + b"\x55",
+                                self.bytes(self.rng.randrange(1100))))
+        self.say("due " + self.typed(lent))
+
+    def run(self, most=40):
+        """Hands over data up to the frame with AR."""
+        for _ in range(self.rng.randrange(1, most)):
+            if self.c.phase != "open":
+                return
+            s = self.c.sender
+            if s.length is None or s.wait or s.hold:
+                return
+            if s.gap:
+                self.wait(s.gap)
+            else:
+                self.due()
+
+    def ack(self):
+        s = self.c.sender
+        count = s.unacknowledged()
+        distance = self.rng.choice((count, count, count, count, 0, 1, count + 1, count - 1, 15, self.rng.randrange(16)))
+        ready = 0x20 if self.rng.random() < 0.75 else 0x00
+        self.heard(0x90 | ready | (s.number + s.oldest + distance) % 16)
+
+    def data(self):
+        r, rng = self.c.receiver, self.rng
+        number = r.expected if rng.random() < 0.85 else (r.expected + rng.choice((-1, -1, 1, rng.randrange(16)))) % 16
+        asks = rng.random() < 0.4
+        body = self.bytes(rng.randrange(1, 8))
+        last = rng.random() < 0.4
+        odd = rng.random() < 0.25
+        if r.course is None:
+            room = len(self.console.buffer)
+            declared = rng.choice((1, 2, 5, 6, 12, 13, 19, 26, 40, rng.randrange(200)))
+            if rng.random() < 0.2:
+                declared = rng.choice((0, 1, room - 1, room, room + 1, 1023, 1024, 1025, 1026, 65535,
+                                       rng.randrange(65536)))
+            declared = max(0, min(65535, declared))
+            body = declared.to_bytes(2, "big") + self.bytes(min(5, declared))
+            if not odd:
+                last = declared <= 5
+            elif rng.random() < 0.7:
+                body = body[:2] + self.bytes(rng.randrange(6))
+            else:
+                body = body[:rng.randrange(1, 4)]
+        elif r.course != model.THROWN and not odd:
+            left = r.course[0] - r.course[1]
+            last = left <= 7
+            body = self.bytes(min(7, left) if rng.random() < 0.9 or last else rng.randrange(1, 7))
+        self.heard((0x00 if asks else 0x20) | (0x10 if last else 0x00) | number, *body)
+
+    def room(self):
+        r = self.c.receiver if self.c.phase == "open" else None
+        choices = [0, 1, 5, 26, 200, 1023, 1024, 1024, 1025, 4095, 4096]
+        near_to = r and (r.complete or (type(r.course) is tuple and r.course[0]))
+        if near_to:
+            choices += [near_to - 1, near_to, near_to + 1] * 4
+        self.say("room %d" % self.rng.choice(choices))
+
+    def far_id(self):
+        c = self.c
+        ident = self.rng.choice((c.tx, 0x200, 0x200 + c.settings.unit, c.settings.rx ^ 1, c.settings.rx | 0x800, 0xFFFF,
+                                 self.rng.randrange(0x10000)))
+        self.frame(ident, self.bytes(self.rng.randrange(13)))
+
+    def idle(self):
+        self.say(self.rng.choice(("", " ", "    ", "#", "# words", "#new", "#" + "x" * 200)))
+
+    def odd_line(self):
+        """A malformed line, or a good one that is oddly written."""
+        rng = self.rng
+        way = rng.random()
+        if way < 0.15:
+            self.idle()
+        elif way < 0.25:
+            self.say(rng.choice(("time 0", "time 00", "time 007", "  time 1", "time  2  ", "room 1024", "room 01024",
+                                 "due ", " due", "  due  - ", "buffer ", "take ")))
+        elif way < 0.35:
+            self.open(self.odd_settings())
+        elif way < 0.45:
+            self.say(bytes(rng.choice((*range(0x21, 0x7F), *range(0xA1, 0x100))) for _ in range(rng.randrange(8, 30)))
+                     .replace(b"#", b"!"))
+        elif way < 0.5:
+            self.say(self.long_line())
+        else:
+            self.say(rng.choice(MALFORMED))
+
+    def long_line(self):
+        """Of 16,000 characters or one more."""
+        name = self.rng.choice((b"send ", b"due ", b"frame 300 ", b"frame 201 ", b"x", b"new "))
+        most = model.LINE + self.rng.randrange(2)
+        odd = (most - len(name)) % 2
+        return (name + (b"A5 " if odd else b"") + b"A5" * (most // 2))[:most]
+
+    def buffer(self):
+        self.say("buffer")
+
+    def closed_step(self):
+        way = self.rng.choice(("junk", "telegram", "close", "take", "send", "time", "due", "due", "open", "odd line",
+                               "room", "D0"))
+        if self.c.bye is not None and way in ("due", "open", "odd line", "room", "D0"):
+            way = self.rng.choice(("due", "open"))
+        if way == "junk":
+            self.junk()
+        elif way == "telegram":
+            self.heard(*self.rng.choice(((0xA8,), (0xA3,), (0xB0,), (0x10, 0, 1, 1),
+                                         (0xA1, 15, 0x8A, 0xFF, 0x32, 0xFF))))
+        elif way == "close":
+            self.say("close")
+        elif way == "take":
+            self.say("take")
+        elif way == "send":
+            self.odd_send()
+        elif way == "time":
+            self.time()
+        elif way == "due":
+            self.say("due")
+        elif way == "open":
+            self.open(self.odd_settings())
+        elif way == "odd line":
+            self.odd_line()
+        elif way == "room":
+            self.room()
+        else:
+            self.frame(0x201, (0x00, 0xD0, 0x00, 0x03, 0x40, 0x07, 0x01))
+
+    def step(self, weights):
+        """One call that suits the phase, at the edge of a rule more often than not."""
+        if self.c.phase == "closed":
+            return self.closed_step()
+        if self.c.phase != "open":
+            return self.opening_mishap(0x740, 15, 0)
+        way = self.rng.choices(STEPS, [weights.get(step, BASE[step]) for step in STEPS])[0]
+        if way == "due":
+            self.due()
+        elif way == "break":
+            self.heard(0xA4)
+        elif way == "test":
+            self.heard(0xA3)
+        elif way == "A1":
+            self.a1(self.rng.choice((15, 1, 0, 16, self.rng.randrange(256))), self.rng.randrange(256))
+        elif way == "A0":
+            self.heard(0xA0, 15, 0x8A, 0xFF, 0x32, 0xFF)
+        elif way == "bye":
+            self.heard(0xA8)
+        elif way in ("close", "take"):
+            self.say(way)
+        elif way == "open":
+            self.say(self.rng.choice(("open", "open 768 1 16 138 50 1000 10 5 1000 0 5")))
+        else:
+            getattr(self, way)()
+
+    # Whole scenarios
+
+    def wander(self, steps, weights, **opening):
+        """Single steps, led by the record so that most are at the edge of a rule."""
+        mess = self.rng.choice((0, 0, 0.2, 0.5))
+        for _ in range(steps):
+            if self.c.phase != "closed" or self.rng.random() < 0.5:
+                self.step(weights)
+                continue
+            fixed = {key: self.rng.choice(value) for key, value in opening.items()}
+            self.opening(self.settings(**fixed), mess=mess,
+                         tx=self.rng.choice((0x740, 0x740, 0, 0x7FF, self.rng.randrange(0x800))),
+                         block=self.rng.choice((15, 15, 1, 2, 3, self.rng.randrange(1, 16))),
+                         t3=self.rng.choice((0, 0, 0, 0x32, 0x01, 0x4A, 0xFF, self.rng.randrange(256))))
+
+    def traffic(self, steps, car, lengths, loss=0.0, twice=0.0, swap=0.0, late=0.0, settings=None, clean=False):
+        """Both ends talk over links that lose, repeat and reorder; clean links must deliver everything in order."""
+        rng = self.rng
+        to_car, to_box, accepted, taken = [], [], [], []
+        hard = 0
+
+        def put(link, frame):
+            if rng.random() < loss:
+                return
+            link.append(frame)
+            if rng.random() < twice:
+                link.append(frame)
+            if len(link) > 1 and rng.random() < swap:
+                link[-2:] = reversed(link[-2:])
+
+        for _ in range(steps):
+            c = self.c
+            if c.phase == "closed" and c.bye is None:
+                hard += 1
+                if hard > 4 or (clean and hard > 1):
+                    break
+                self.open(settings or self.settings())
+                continue
+            something_due = self.something_due()
+            quick = clean and c.phase != "open"     # a repeated A0 that crosses the A1 would start the car anew
+            options = [("due", 8 if something_due else 0.4),
+                       ("time", 0 if quick else 1 if something_due or to_box or to_car else 3),
+                       ("to_box", 8 if to_box else 0), ("to_car", 8 if to_car else 0), ("work", 3),
+                       ("tire", 0.1 if car.rx is not None and (to_box or to_car) else 1)]
+            if c.phase == "open":
+                options += [("send", 2 if c.sender.length is None else 0.02),
+                            ("take", 0.02 if c.receiver.complete is None else 20 if rng.random() >= late else 0.3),
+                            ("buffer", 0.02)]
+            way = rng.choices([name for name, _ in options], [weight for _, weight in options])[0]
+            if way == "due":
+                frame = self.due()
+                if frame:
+                    put(to_car, frame)
+            elif way == "to_car":
+                for frame in car.hear(*to_car.pop(0)):
+                    put(to_box, frame)
+            elif way == "to_box":
+                self.frame(*to_box.pop(0))
+            elif way == "work":
+                frame = car.work(lengths)
+                if frame:
+                    put(to_box, frame)
+            elif way == "tire":
+                car.tire()
+            elif way == "time":
+                left = timers(c)
+                short = left.get("T3") or (0 if to_box or to_car else min(left.values(), default=0))
+                self.wait(short or rng.randrange(40))
+            elif way == "send":
+                if self.say("send " + self.typed(message := self.bytes(rng.choice(lengths)))) == "0":
+                    accepted.append(message)
+            elif way == "take":
+                answer = self.say("take")
+                if answer.startswith("0"):
+                    taken.append(bytes.fromhex(answer[2:]))
+            else:
+                self.buffer()
+        if clean:
+            assert car.heard == accepted[:len(car.heard)] and taken[:len(car.sent)] == car.sent[:len(taken)]
+            assert len(taken) >= len(car.sent) - 1
+            self.tally["carried to the car"] += len(car.heard)
+            self.tally["carried to the box"] += len(taken)
+
+    def something_due(self):
+        c = self.c
+        if c.phase == "closed":
+            return c.bye is not None
+        if c.phase != "open":
+            return c.asking
+        return c.answering or c.test_due() or c.receiver.ack is not None or c.sender.due()
+
+    def finish(self):
+        if self.rng.random() < 0.3:
+            self.say("room 4096")
+        self.buffer()
+        if self.rng.random() < 0.5:
+            self.say("close")
+        self.due()
+        self.due()
+
+
+# What may be done at each step, and how often: while opening, and on an open connection.
+MISHAPS = {"time": 8, "due": 4, "reply": 6, "bad reply": 8, "refusal": 1, "other ID": 3, "call": 2, "junk": 3,
+           "close": 0.5, "A8": 0.8, "other kind": 5, "silence": 1, "odd line": 2, "long time": 1}
+BASE = {"due": 25, "run": 4, "ack": 8, "data": 14, "time": 10, "send": 4, "take": 6, "break": 2, "test": 2, "A1": 1.5,
+        "A0": 0.4, "bye": 0.3, "close": 0.2, "junk": 2, "far_id": 0.7, "room": 1.5, "buffer": 0.5, "odd_line": 2,
+        "odd_send": 0.4, "due_lending": 1.5, "open": 0.3}
+STEPS = tuple(BASE)
+
+MALFORMED = (
+    "hello", "OPEN", "New", "frames 300 01", "newnew", "-", "0", "due-", "open-", "time1", "frame300 01", "0 done",
+    "error line 1", "new 1", "new -", "take 1", "take -", "close now", "buffer 0", "buffer -", "time", "time 1 2",
+    "room", "room 1 2", "open 1", "open 768 1 15 138 50 1000 10 5 1000 0",
+    "open 768 1 15 138 50 1000 10 5 1000 0 5 5", "open 768 1 15 138 50 1000 10 5 1000 0 x",
+    "open 0x300 1 15 138 50 1000 10 5 1000 0 5", "open -1 1 15 138 50 1000 10 5 1000 0 5",
+    "open 768 1 15 8A 50 1000 10 5 1000 0 5", "frame", "frame 300", "frame -", "send", "frame 300 - -",
+    "frame 300 - 01", "frame 300 01 -", "frame 300 --", "time 18446744073709551616", "time 18446744073709551625",
+    "time 28446744073709551615", "time 99999999999999999999", "time 100000000000000000000",
+    "time 36893488147419103232", "time 340282366920938463463374607431768211456",
+    "time 340282366920938463463374607431768211457", "time -1", "time +1", "time 1.0", "time 1e3", "time 0x10",
+    "time 1a", "time a", "time -", "time 1_000", "time 1,000", "room 4097", "room 5000", "room 65536",
+    "room 4294967296", "room 4294967297", "room 18446744073709551616", "room -0", "room -1", "room 0x10", "room ten",
+    "frame 300 0g", "frame 300 g0", "frame 300 0", "frame 300 123", "frame 300 01 2", "frame 300 01 2 3",
+    "frame 300 0 1", "frame 300 01,02", "frame 300 0x01", "frame g00 01", "frame 00300 01", "frame 10000 01",
+    "frame 0x300 01", "frame x 01", "frame 3-0 01", "frame 300: 01", "send 0", "send 012", "send xx", "send - -",
+    "send - 01", "send 01 -", "send --", "send 01 0", "due 0", "due zz", "due - -", "due 01 0G", "due 1 2", "@0 01",
+    "`0", "/", ":", "frame 300 :0", "frame 300 /0", "frame 300 @0", "frame 300 `0", "frame 300 G0", "time :",
+    "time /", "room 1:")
+
+SHORT = (1, 2, 5, 6, 12, 13, 26)
+LONG = (1, 103, 104, 400, 1019, 1023, 1024, 1024)
+
+
+# Going through all values
+
+def limits(play):
+    """Each setting at each limit, on both sides, and at each width."""
+    for at, (low, high) in enumerate(model.RANGES):
+        values = {max(0, low - 1), low, low + 1, high - 1, high, high + 1, model.WIDTHS[at], BEYOND[at],
+                  2**32 + low, 2**64 + low}
+        if Settings._fields[at] == "t1":
+            values |= {0x00, 0x40, 0x80, 0xC0, 0x41, 0x81, 0xC1}
+        for value in sorted(values):
+            chosen = list(Settings())
+            chosen[at] = value
+            if play.open(chosen) == "0":
+                play.due()
+                play.say("close")
+
+
+def every_reply(play):
+    """Every opcode, every length, and every value of every byte of a D0, before and after the request."""
+    def fresh():
+        if play.c.phase != "setup":
+            play.say("close")
+            play.open(Settings(rx=0x7A5))
+            play.due()
+    play.open(Settings(rx=0x7A5))
+    good = bytes(play.d0(0x740))
+    for opcode in (0xD0, 0xD5, 0xD6, 0xD7, 0xD8, 0xD9):
+        play.heard(0x00, opcode, *good[2:])
+        play.heard(0x01, opcode, *good[2:])
+    play.due()
+    for opcode in range(256):
+        fresh()
+        play.heard(0x00, opcode, *good[2:])
+    for opcode in (0xD0, 0xD6, 0xD7, 0xD8):
+        for length in range(13):
+            fresh()
+            play.heard(*(bytes([0x00, opcode]) + good[2:] + bytes(5))[:length])
+        for first in (0x01, 0x80):
+            fresh()
+            play.heard(first, opcode, *good[2:])
+        for at in range(2, 7):
+            fresh()
+            play.heard(0x00, opcode, *good[2:at], 0xFF, *good[at + 1:])
+    for at in range(7):
+        for value in range(256):
+            fresh()
+            play.heard(*good[:at], value, *good[at + 1:])
+
+
+def every_first_byte(play, phase):
+    """Every first byte at every length."""
+    for length in range(13):
+        for first in range(256 if length else 1):
+            if play.c.phase != phase:
+                play.say("close")
+                play.open(Settings(rx=0x123, block=7))
+                play.due()
+                play.heard(*play.d0(0x7FF))
+                play.due()
+                if phase == "open":
+                    play.a1(15, 0)
+                    play.send((208,))
+                    play.due()
+            play.heard(*(bytes([first]) + play.bytes(12))[:length])
+            if first % 32 == 31:
+                play.say("take")
+                play.due()
+
+
+def every_ack(play):
+    """Every Ack while each number of frames is unacknowledged."""
+    for count in range(16):
+        for first in (*range(0x90, 0xA0), *range(0xB0, 0xC0)):
+            if play.c.phase != "open" or play.c.sender.unacknowledged() != count or play.c.sender.hold:
+                play.say("close")
+                play.opening(Settings(interval=0, repeats=1))
+                play.send((208,))
+                for _ in range(count):
+                    play.due()
+            play.heard(first)
+
+
+def opened(play):
+    play.say("close")
+    play.say("room 1024")
+    play.opening(Settings(interval=0))
+
+
+def every_first_frame(play):
+    """First frames of every length, with every flag, of messages at the limits, in buffers at the limits."""
+    for declared in (0, 1, 4, 5, 6, 7, 1024, 1025, 65535):
+        for length in range(1, 8):
+            for flags in (0x00, 0x10, 0x20, 0x30):
+                for room in sorted({max(0, declared - 1), declared, declared + 1}):
+                    opened(play)
+                    play.say("room %d" % min(room, model.BUFFER))
+                    play.heard(flags, *(declared.to_bytes(2, "big") + play.bytes(5))[:length])
+                    after_data(play)
+
+
+def every_later_frame(play):
+    """Later frames of every length, with every flag, of messages short of their end, in buffers at the limits."""
+    for declared in (6, 7, 8, 12, 13):
+        for length in range(1, 8):
+            for flags in (0x00, 0x10, 0x20, 0x30):
+                for room in (declared - 1, declared):
+                    opened(play)
+                    play.heard(play.rng.choice((0x00, 0x20)), 0x00, declared, *play.bytes(5))
+                    play.say("room %d" % room)
+                    play.heard(flags | 0x01, *play.bytes(length))
+                    after_data(play)
+
+
+def after_data(play):
+    """What shows how the frame before was taken."""
+    play.due()
+    play.say("take")
+    if play.rng.random() < 0.3:
+        play.heard(0xA4)
+    play.heard(0x10 | play.c.receiver.expected, 0x00, 0x01, 0x77)
+    play.due()
+    play.say("take")
+
+
+def whole(play, length):
+    """A message of this length each way, with nothing lost."""
+    r, s = play.c.receiver, play.c.sender
+    play.send((length,))
+    while s.length is not None:
+        if s.wait:
+            play.heard(0xB0 | (s.number + s.next) % 16)
+        else:
+            play.due()
+    message = play.bytes(length)
+    for place in range(model.frames_of(length)):
+        frame, asks = model.cut(message, place, s.block, r.expected)
+        play.heard(*frame)
+        if asks:
+            play.due()
+    play.say("take")
+
+
+def every_length(play):
+    opened(play)
+    for length in (*range(1, 42), 102, 103, 104, 207, 208, 209, 255, 256, 257, 511, 512, 513, *range(1016, 1025)):
+        whole(play, length)
+
+
+def every_block(play):
+    for block in range(1, 16):
+        play.say("close")
+        play.opening(Settings(block=block if block % 2 else 15, interval=0), block=15 if block % 2 else block)
+        whole(play, model.LONGEST)
+        play.buffer()
+
+
+SWEEPS = (limits, every_reply, lambda play: every_first_byte(play, "parameters"),
+          lambda play: every_first_byte(play, "open"), every_ack, every_first_frame, every_later_frame, every_length,
+          every_block)
+
+
+# At random
+
+def openings(play, rng, steps):
+    for _ in range(rng.randrange(1, 6)):
+        play.opening(tx=rng.randrange(0x800), block=rng.randrange(1, 16), t3=rng.randrange(256),
+                     mess=rng.choice((0, 0.3, 0.6, 0.9)))
+        for _ in range(rng.randrange(6)):
+            play.step({})
+        play.say("close")
+        if rng.random() < 0.5:
+            play.due()
+
+
+def sending(play, rng, steps):
+    play.wander(steps, {"due": 15, "run": 25, "ack": 30, "data": 1, "send": 12, "take": 0.5, "break": 0.3, "test": 0.5},
+                interval=(0, 0, 10000), rx=(0x300,), unit=(1,), repeats=(5, 0, 1, 2, 255), t1=(0x8A, 0x8A, 0x41),
+                mntc=(10,))
+
+
+def receiving(play, rng, steps):
+    play.wander(steps, {"due": 20, "run": 0, "ack": 0.5, "data": 60, "send": 0.5, "take": 14, "time": 1, "break": 5,
+                        "test": 0.3, "room": 3, "buffer": 2}, interval=(0, 10000), mntc=(10,))
+
+
+def short_buffers(play, rng, steps):
+    play.wander(steps, {"data": 60, "room": 15, "take": 15, "buffer": 4, "due": 10, "run": 0, "ack": 0, "send": 0,
+                        "time": 0.5, "junk": 0.5}, interval=(0,), mntc=(10,))
+
+
+def testing(play, rng, steps):
+    play.wander(steps, {"due": 30, "run": 3, "time": 25, "A1": 6, "test": 4, "data": 10, "send": 3, "take": 1,
+                        "odd_line": 0.5, "close": 0.1, "bye": 0.1},
+                interval=(1, 2, 50, 100, 1000), tests=(0, 1, 2, 2, 5), t1=(0x8A, 0x41, 0x45, 0x01), repeats=(5, 255),
+                mntc=(10,))
+
+
+def anything(play, rng, steps):
+    play.wander(steps, {})
+
+
+def malformed_lines(play, rng, steps):
+    play.wander(steps, {"odd_line": 30, "odd_send": 5, "far_id": 5, "junk": 10})
+
+
+def settings(play, rng, steps):
+    for _ in range(steps // 4):
+        if play.open(play.odd_settings()) == "0" and rng.random() < 0.3:
+            play.due()
+        play.say("close")
+
+
+def full_blocks(play, rng, steps):
+    """A block of 15 and what lies around it."""
+    play.opening(play.settings(block=15, interval=0, repeats=rng.choice((0, 1, 5)), t1=0x8A),
+                 block=rng.choice((15, 15, 14)))
+    for _ in range(rng.randrange(1, 6)):
+        if play.c.phase != "open":
+            break
+        play.send((103, 104, 208, 1024))
+        for _ in range(rng.randrange(4, 30)):
+            play.step({"run": 40, "ack": 30, "due": 1, "data": 0.1, "send": 0.1, "take": 0.1, "close": 0, "bye": 0})
+
+
+def talking(play, rng, steps, lengths, loss=0.0, clean=False):
+    """Both ends talk; unless clean, frames are also repeated and change places, and the car refuses and leaves."""
+    pick = rng.choice
+    habits = {"speak": 0.5, "hold": pick((0, 0.05, 0.3)), "test": pick((0, 0.02))}
+    if not clean:
+        habits.update({"break": pick((0, 0.01, 0.05)), "refuse": 0.1, "refuse_data": 0.3, "bye": pick((0, 0.002))})
+    own = play.settings(t1=0x8A, interval=pick((0, 3000, 10000)), repeats=255 if clean else pick((5, 20)), tests=5,
+                        mntc=10, twait=pick((100, 1000)))
+    car = model.Car(rng, pick((0x740, 0x740, rng.randrange(0x800))), rng.randrange(1, 16), pick((0, 0, 0x32, 0x01)),
+                    habits)
+    play.traffic(2 * steps, car, lengths, loss=loss, twice=0 if clean else pick((0, 0.1)),
+                 swap=0 if clean else pick((0, 0.05)), late=pick((0, 0.2, 0.9)), settings=own, clean=clean)
+
+
+def clean_talk(play, rng, steps):
+    talking(play, rng, steps, rng.choice((SHORT, LENGTHS)), clean=True)
+
+
+def lossy_talk(play, rng, steps):
+    talking(play, rng, steps, rng.choice((SHORT, LENGTHS)), loss=rng.choice((0, 0.02, 0.1, 0.3)))
+
+
+def long_talk(play, rng, steps):
+    talking(play, rng, 750, LONG, loss=rng.choice((0, 0.002, 0.01, 0.03)))
+
+
+KINDS = {openings: 10, sending: 12, receiving: 12, short_buffers: 4, testing: 8, anything: 8, malformed_lines: 6,
+         settings: 3, full_blocks: 3, clean_talk: 10, lossy_talk: 10, long_talk: 2}
+
+
+def scenario(play, index):
+    """The first few go through all values of something; the rest are random."""
+    if index < len(SWEEPS):
+        SWEEPS[index](play)
+    else:
+        kind = play.rng.choices(list(KINDS), list(KINDS.values()))[0]
+        kind(play, play.rng, play.rng.randrange(40, 200))
+    play.finish()
