@@ -4,7 +4,8 @@ use mathlib.Core.Bool.{Bool}
 use mathlib.Core.List.{List}
 use mathlib.Core.Logic.{_≢_}
 use mathlib.Core.Path.{_≡_, refl}
-use Rattle.laws.proofs.Cases.{by-not, by-lt, by-eq}
+use Rattle.laws.proofs.Cases.{by, by-not, by-eq}
+use Rattle.telegram.specs.Kinds.{badBlock}
 use Rattle.telegram.specs.declared.kinds.Parameters.{Parameters as Fields}
 use Rattle.telegram.specs.declared.kinds.Telegram.{Telegram}
 use Rattle.telegram.specs.declared.kinds.Telegram.the-variants.{Data, Ack, Test, Break, Disconnect, Setup, Accept, Malformed}
@@ -12,12 +13,12 @@ use Rattle.sender.specs.Sending.{heard}
 use Rattle.receiver.specs.Receiving.{received}
 use Rattle.channel.specs.declared.Answer.{Answer}
 use Rattle.channel.specs.declared.Channel.{Channel}
-use Rattle.channel.specs.declared.Arrived.{Arrived}
-use Rattle.channel.specs.Numbers.{numberOf}
+use Rattle.channel.specs.declared.Answered.{Answered}
+use Rattle.channel.specs.Numbers.{said}
 use Rattle.channel.specs.Opened.{withSender, withReceiver, dataAnswer, ackAnswer, answered, onData, onAck, onAccept, arrived}
 
 -- an arrival is answered so, and leaves that channel but for the interval
-pub record Leaves (a : Answer) (c : Channel) (x : Arrived) : Type 0 where
+pub record Leaves (a : Answer) (c : Channel) (x : Answered) : Type 0 where
   pub answer : x .answer ≡ a
   pub parameters : x .channel .parameters ≡ c .parameters
   pub sender : x .channel .sender ≡ c .sender
@@ -29,17 +30,17 @@ pub record Leaves (a : Answer) (c : Channel) (x : Arrived) : Type 0 where
   pub unanswered : x .channel .tests .unanswered ≡ c .tests .unanswered
 
 -- the interval after an arrival: whole where the answer's number is 0, else what was left of it
-pub record Interval (x : Arrived) (whole left : ℕ) : Type 0 where
-  pub good : numberOf (x .answer) ≡ 0 → x .channel .tests .interval ≡ whole
-  pub refused : numberOf (x .answer) ≢ 0 → x .channel .tests .interval ≡ left
+pub record Interval (x : Answered) (whole left : ℕ) : Type 0 where
+  pub good : said (x .answer) .number ≡ 0 → x .channel .tests .interval ≡ whole
+  pub refused : said (x .answer) .number ≢ 0 → x .channel .tests .interval ≡ left
 
-abbrev pub Restarts : Channel → Arrived → Type 0
+abbrev pub Restarts : Channel → Answered → Type 0
 Restarts c x = Interval x (c .parameters .interval) (c .tests .interval)
 
 module _ (a : Answer) (c : Channel) where
   answered-leaves : Leaves a c (answered a c)
   unfolding answered
-  answered-leaves = by-eq (Leaves a c) (numberOf a) 0 (λ _. same) (λ _. same)
+  answered-leaves = by-eq (Leaves a c) (said a .number) 0 (λ _. same) (λ _. same)
     where
       same : {i : ℕ} → Leaves a c
           (record {
@@ -57,7 +58,7 @@ module _ (a : Answer) (c : Channel) where
   answered-restarts : Restarts c (answered a c)
   unfolding answered
   answered-restarts =
-      by-eq (Restarts c) (numberOf a) 0
+      by-eq (Restarts c) (said a .number) 0
       (λ e. record { good = λ _. refl; refused = λ n. absurd (n e) })
       (λ n. record { good = λ e. absurd (n e); refused = λ _. refl })
 
@@ -86,8 +87,7 @@ module _ (limit : ℕ) (c : Channel) (p : List ℕ) (room : ℕ) where
   unfolding onAccept
   accept-restarts s =
       by-not (Restarts c) (c .tests .out) (λ _. answered-restarts _ _)
-      (λ _. by-eq (Restarts c) (s .block) 0 (λ _. answered-restarts _ _)
-      (λ _. by-lt (Restarts c) 15 (s .block) (λ _. answered-restarts _ _) (λ _. answered-restarts _ _)))
+      (λ _. by (Restarts c) (badBlock (s .block)) (λ _. answered-restarts _ _) (λ _. answered-restarts _ _))
 
   -- the interval restarts at an arrival answered 0, and at no other
   pub arrived-restarts : (t : Telegram) → Restarts c (arrived limit c t p room)

@@ -7,15 +7,15 @@ use lib.Dec.{leb}
 use Rattle.laws.proofs.Cases.{by, by-not}
 use Rattle.sender.specs.Sending.{passed}
 use Rattle.channel.specs.declared.Channel.{Channel}
-use Rattle.channel.specs.declared.Elapsed.{Elapsed}
-use Rattle.channel.specs.Numbers.{numberOf}
+use Rattle.channel.specs.declared.Answered.{Answered}
+use Rattle.channel.specs.Numbers.{said}
 use Rattle.channel.specs.Opened.{waitEnds, lost, repeatsUsedUp, elapsed, sent}
 
 -- time changes no receiver and restarts no interval; 8 leaves the channel as it was
-pub record Passes (c : Channel) (n : ℕ) (x : Elapsed) : Type 0 where
+pub record Passes (c : Channel) (n : ℕ) (x : Answered) : Type 0 where
   pub receiver : x .channel .receiver ≡ c .receiver
-  pub interval : numberOf (x .answer) ≡ 0 → x .channel .tests .interval ≡ c .tests .interval - n
-  pub lost : numberOf (x .answer) ≢ 0 → x .channel ≡ c
+  pub interval : said (x .answer) .number ≡ 0 → x .channel .tests .interval ≡ c .tests .interval - n
+  pub lost : said (x .answer) .number ≢ 0 → x .channel ≡ c
 
 module _ (c : Channel) (n : ℕ) where
   is-lost : Passes c n (lost c)

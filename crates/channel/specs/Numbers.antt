@@ -1,50 +1,30 @@
 -- 01, "Numbers we answer with".
 use Prim.Native.Nat.{ℕ}
-use mathlib.Core.Bool.{Bool, true, false}
+use mathlib.Core.Bool.{Bool, true, false, _||_}
+use lib.Dec.{eqb}
 use Rattle.channel.specs.declared.Answer.{Answer}
 use Rattle.channel.specs.declared.Answer.the-variants.{Good, Done, Disconnected, Malformed, BlockSize, NotDue, Busy, BadLength, ShortBuffer, UsedUp, Broken, NoChange}
+use Rattle.channel.specs.declared.Said.{Said}
 
--- each answer's number in the table
-abbrev pub numberOf : Answer → ℕ
-numberOf Good = 0
-numberOf Done = 0
-numberOf Disconnected = 0
-numberOf Malformed = 1
-numberOf BlockSize = 2
-numberOf NotDue = 4
-numberOf Busy = 5
-numberOf BadLength = 6
-numberOf ShortBuffer = 7
-numberOf UsedUp = 8
-numberOf (Broken c) = 9
-numberOf NoChange = 12
+-- a number of the table with nothing more to say
+abbrev pub plain : ℕ → Said
+plain n = record { number = n; done = false; left = false }
 
--- the answer says that the message in sending is done
-abbrev pub saysDone : Answer → Bool
-saysDone Good = false
-saysDone Done = true
-saysDone Disconnected = false
-saysDone Malformed = false
-saysDone BlockSize = false
-saysDone NotDue = false
-saysDone Busy = false
-saysDone BadLength = false
-saysDone ShortBuffer = false
-saysDone UsedUp = false
-saysDone (Broken c) = false
-saysDone NoChange = false
+-- each answer's number in the table, and the values that it carries
+abbrev pub said : Answer → Said
+said Good = plain 0
+said Done = record { number = 0; done = true; left = false }
+said Disconnected = record { number = 0; done = false; left = true }
+said Malformed = plain 1
+said BlockSize = plain 2
+said NotDue = plain 4
+said Busy = plain 5
+said BadLength = plain 6
+said ShortBuffer = plain 7
+said UsedUp = plain 8
+said (Broken c) = plain 9
+said NoChange = plain 12
 
--- the answer closes the record: 8, or the peer's disconnect
+-- the answer closes the record: row 8, or "Disconnect: closed"
 abbrev pub closes : Answer → Bool
-closes Good = false
-closes Done = false
-closes Disconnected = true
-closes Malformed = false
-closes BlockSize = false
-closes NotDue = false
-closes Busy = false
-closes BadLength = false
-closes ShortBuffer = false
-closes UsedUp = true
-closes (Broken c) = false
-closes NoChange = false
+closes a = eqb (said a .number) 8 || said a .left

@@ -6,7 +6,7 @@ use lib.ListN.{length}
 use lib.Dec.{ltb, leb, eqb}
 use Rattle.laws.specs.If.{if_then_else_}
 use Rattle.telegram.specs.Outgoing.{written}
-use Rattle.telegram.specs.Kinds.{ackOf, testOf, acceptOf}
+use Rattle.telegram.specs.Kinds.{badBlock, ackOf, testOf, acceptOf}
 use Rattle.telegram.specs.declared.payload.Payload.{Payload}
 use Rattle.telegram.specs.declared.kinds.Parameters.{Parameters as Fields}
 use Rattle.telegram.specs.declared.kinds.Telegram.{Telegram}
@@ -31,23 +31,27 @@ use Rattle.channel.specs.declared.Tests.{Tests}
 use Rattle.channel.specs.declared.Channel.{Channel}
 use Rattle.channel.specs.declared.Answer.{Answer}
 use Rattle.channel.specs.declared.Answer.the-variants.{Good, Done, Disconnected, Malformed as BadForm, BlockSize, NotDue, Busy, BadLength, ShortBuffer, UsedUp, Broken, NoChange}
-use Rattle.channel.specs.declared.Arrived.{Arrived}
-use Rattle.channel.specs.declared.Elapsed.{Elapsed}
+use Rattle.channel.specs.declared.Answered.{Answered}
 use Rattle.channel.specs.declared.Due.{Due}
-use Rattle.channel.specs.declared.Sent.{Sent}
-use Rattle.channel.specs.Numbers.{numberOf}
+use Rattle.channel.specs.Numbers.{said}
 
--- ---- parts of a channel put back
+-- ---- parts of a channel
 
+-- a channel with another sending half, receiving half, state of the tests, and A1 due or not
+
+-- a channel with another sending half
 abbrev pub withSender : Channel → Sender → Channel
 withSender c s = record { parameters = c .parameters; sender = s; receiver = c .receiver; tests = c .tests; accept = c .accept }
 
+-- a channel with another receiving half
 abbrev pub withReceiver : Channel → Receiver → Channel
 withReceiver c r = record { parameters = c .parameters; sender = c .sender; receiver = r; tests = c .tests; accept = c .accept }
 
+-- a channel with other tests
 abbrev pub withTests : Channel → Tests → Channel
 withTests c t = record { parameters = c .parameters; sender = c .sender; receiver = c .receiver; tests = t; accept = c .accept }
 
+-- a channel whose A1 is due, or not
 abbrev pub withAccept : Channel → Bool → Channel
 withAccept c a = record { parameters = c .parameters; sender = c .sender; receiver = c .receiver; tests = c .tests; accept = a }
 
@@ -62,14 +66,8 @@ fresh p = record { parameters = p; sender = freshSender; receiver = freshReceive
 -- the interval starts again, by a frame handed over or answered 0
 abbrev pub restarted : Channel → Channel
 restarted c =
-    withTests c
-    (record {
-      out = c .tests .out;
-      again = c .tests .again;
-      wait = c .tests .wait;
-      unanswered = c .tests .unanswered;
-      interval = c .parameters .interval;
-    })
+    (let t = c .tests in
+    withTests c (record { out = t .out; again = t .again; wait = t .wait; unanswered = t .unanswered; interval = c .parameters .interval }))
 
 -- ---- a telegram arrives
 
@@ -95,36 +93,35 @@ ackAnswer NotReadyTooOften = UsedUp
 ackAnswer NoAck = NotDue
 
 -- an arrival: a frame answered 0 starts the interval again
-unfoldable pub answered : Answer → Channel → Arrived
-answered a c = if eqb (numberOf a) 0 then record { answer = a; channel = restarted c } else record { answer = a; channel = c }
+unfoldable pub answered : Answer → Channel → Answered
+answered a c = if eqb (said a .number) 0 then record { answer = a; channel = restarted c } else record { answer = a; channel = c }
 
 -- data: what the receiving half makes of it
-unfoldable pub onData : (limit : ℕ) → Channel → Telegram → (p : List ℕ) → (room : ℕ) → Arrived
+unfoldable pub onData : (limit : ℕ) → Channel → Telegram → (p : List ℕ) → (room : ℕ) → Answered
 onData limit c t p room =
     (let r = received limit (c .receiver) t p room in answered (dataAnswer (r .note)) (withReceiver c (r .receiver)))
 
 -- an Ack: what the sending half makes of it
-unfoldable pub onAck : Channel → Telegram → Arrived
+unfoldable pub onAck : Channel → Telegram → Answered
 onAck c t = (let h = heard (c .parameters .terms) (c .sender) t in answered (ackAnswer (h .note)) (withSender c (h .sender)))
 
 -- a test makes our A1 due
-abbrev pub onTest : Channel → Arrived
+abbrev pub onTest : Channel → Answered
 onTest c = answered Good (withAccept c true)
 
 -- a break takes the receiving half back
-abbrev pub onBreak : Channel → Arrived
+abbrev pub onBreak : Channel → Answered
 onBreak c = answered Good (withReceiver c (returned (c .receiver)))
 
 -- an A1 answers a test that is out: 4 with none out, then 2 for its block size byte; else no test is out or due, and the unanswered count is 0
-unfoldable pub onAccept : Channel → Fields → Arrived
+unfoldable pub onAccept : Channel → Fields → Answered
 onAccept c p =
     if not (c .tests .out) then answered NotDue c
-    else if eqb (p .block) 0 then answered BlockSize c
-    else if ltb 15 (p .block) then answered BlockSize c
+    else if badBlock (p .block) then answered BlockSize c
     else answered Good (withTests c (quiet (c .tests .interval)))
 
 -- a sorted telegram with the bytes p behind its first, lent a buffer of room bytes; every A0 gives 4, and what is badly formed 1
-unfoldable pub arrived : (limit : ℕ) → Channel → Telegram → (p : List ℕ) → (room : ℕ) → Arrived
+unfoldable pub arrived : (limit : ℕ) → Channel → Telegram → (p : List ℕ) → (room : ℕ) → Answered
 arrived limit c (Data asks last number) p room = onData limit c (Data asks last number) p room
 arrived limit c (Ack ready number) p room = onAck c (Ack ready number)
 arrived limit c Test p room = onTest c
@@ -153,11 +150,11 @@ abbrev pub ranOut : Tests → ℕ → Tests
 ranOut t n = record { out = t .out; again = true; wait = 0; unanswered = t .unanswered + 1; interval = t .interval - n }
 
 -- row 8; the channel is as it was, for the record above to close
-abbrev pub lost : Channel → Elapsed
+abbrev pub lost : Channel → Answered
 lost c = record { answer = UsedUp; channel = c }
 
 -- the timers ran on
-abbrev pub went : Channel → Sender → Tests → Elapsed
+abbrev pub went : Channel → Sender → Tests → Answered
 went c s t = record { answer = Good; channel = withTests (withSender c s) t }
 
 -- the repeats of the block in sending are used up
@@ -167,7 +164,7 @@ repeatsUsedUp Again = false
 repeatsUsedUp RanOut = true
 
 -- every timer that ends takes effect; 8 where the repeats are used up, or a test's wait runs out once more than is allowed
-unfoldable pub elapsed : Channel → ℕ → Elapsed
+unfoldable pub elapsed : Channel → ℕ → Answered
 elapsed c n =
     (let s = passed (c .parameters .terms) (c .sender) n in
     if repeatsUsedUp (s .note) then lost c
@@ -198,16 +195,9 @@ handAccept c = handOver (withAccept c false) (acceptOf (c .parameters .own))
 -- a test: it is out, and waits T1
 unfoldable pub handTest : Channel → Due
 handTest c =
-    handOver
-    (withTests c
-    (record {
-      out = true;
-      again = false;
-      wait = c .parameters .terms .t1;
-      unanswered = c .tests .unanswered;
-      interval = c .tests .interval;
-    }))
-    testOf
+    (let t = c .tests in
+    let out : Tests = record { out = true; again = false; wait = c .parameters .terms .t1; unanswered = t .unanswered; interval = t .interval } in
+    handOver (withTests c out) testOf)
 
 -- the due Ack
 unfoldable pub handAck : Channel → Due
@@ -240,5 +230,5 @@ offerAnswer InSending = Busy
 offerAnswer NotSent = BadLength
 
 -- a message of n bytes to send
-unfoldable pub sent : (limit : ℕ) → Channel → ℕ → Sent
+unfoldable pub sent : (limit : ℕ) → Channel → ℕ → Answered
 sent limit c n = (let o = offered limit (c .sender) n in record { answer = offerAnswer (o .note); channel = withSender c (o .sender) })

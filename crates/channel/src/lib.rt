@@ -5,7 +5,7 @@
 ghost use mathlib.Core.Path.{_≡_};
 ghost use lib.ListN.{length};
 ghost use Rattle.telegram.specs.Cutting.{longest};
-ghost use Rattle.channel.specs.Numbers.{numberOf};
+ghost use Rattle.channel.specs.Numbers.{plain, said};
 ghost use Rattle.channel.specs.Opened.{fresh, restarted, answered, dataAnswer, ackAnswer, offerAnswer, onData, onAck, onTest, onBreak, onAccept, arrived, bufferedBy, waitEnds, later, repeatsUsedUp, went, elapsed, testDue, handOver, handNothing, handAccept, handTest, handAck, handData, due, sent};
 use receiver::Cause;
 use receiver::Receipt;
@@ -18,6 +18,7 @@ use sender::Sender;
 use sender::Terms;
 use telegram::kinds::Sorted;
 use telegram::kinds::Telegram;
+use telegram::kinds::bad_block;
 use telegram::kinds::write_accept;
 use telegram::kinds::write_ack;
 use telegram::kinds::write_test;
@@ -35,23 +36,23 @@ pub struct Parameters {
 
 // The state of the tests. A timer at 0 does not run.
 pub struct Tests {
+    // What is left of the wait for an A1 (own T1).
+    pub wait: u32,
+    // What is left of the test interval.
+    pub interval: u32,
     // A test was handed over and no A1 has come since.
     pub out: bool,
     // Its wait ran out, and another is due.
     pub again: bool,
-    // What is left of the wait for an A1 (own T1).
-    pub wait: u32,
     // Waits that ran out since the last A1.
     pub unanswered: u8,
-    // What is left of the test interval.
-    pub interval: u32,
 }
 
 pub struct Channel {
     pub parameters: Parameters,
     pub sender: Sender,
-    pub receiver: Receiver,
     pub tests: Tests,
+    pub receiver: Receiver,
     // Our A1 is due, in answer to a test.
     pub accept: bool,
 }
@@ -79,12 +80,16 @@ pub enum Answer {
     NoChange,
 }
 
-pub struct Arrived {
-    pub answer: Answer,
-    pub channel: Channel,
+// What an answer says: its number in the protocol's table, whether it says that the message in sending is done, and whether
+// the peer has left.
+pub struct Said {
+    pub number: u8,
+    pub done: bool,
+    pub left: bool,
 }
 
-pub struct Elapsed {
+// What a call answers, and the channel that it leaves.
+pub struct Answered {
     pub answer: Answer,
     pub channel: Channel,
 }
@@ -97,28 +102,42 @@ pub struct Due {
     pub channel: Channel,
 }
 
-pub struct Sent {
-    pub answer: Answer,
-    pub channel: Channel,
+// A number of the table with nothing more to say.
+fn plain(number: u8) -> Said
+    ensures { λ r. ⌜ r ≡ plain number ⌝ }
+{
+    Said {
+        number,
+        done: false,
+        left: false,
+    }
 }
 
-// An answer's number in the protocol's table.
-pub fn number(answer: Answer) -> u8
-    ensures { λ r. ⌜ r ≡ numberOf answer ⌝ }
+// An answer's number and the values that it carries.
+pub fn say(answer: Answer) -> Said
+    ensures { λ r. ⌜ r ≡ said answer ⌝ }
 {
     match answer {
-        Answer::Good => 0,
-        Answer::Done => 0,
-        Answer::Disconnected => 0,
-        Answer::Malformed => 1,
-        Answer::BlockSize => 2,
-        Answer::NotDue => 4,
-        Answer::Busy => 5,
-        Answer::BadLength => 6,
-        Answer::ShortBuffer => 7,
-        Answer::UsedUp => 8,
-        Answer::Broken(_) => 9,
-        Answer::NoChange => 12,
+        Answer::Good => plain(0),
+        Answer::Done => Said {
+            number: 0,
+            done: true,
+            left: false,
+        },
+        Answer::Disconnected => Said {
+            number: 0,
+            done: false,
+            left: true,
+        },
+        Answer::Malformed => plain(1),
+        Answer::BlockSize => plain(2),
+        Answer::NotDue => plain(4),
+        Answer::Busy => plain(5),
+        Answer::BadLength => plain(6),
+        Answer::ShortBuffer => plain(7),
+        Answer::UsedUp => plain(8),
+        Answer::Broken(_) => plain(9),
+        Answer::NoChange => plain(12),
     }
 }
 
@@ -176,13 +195,7 @@ impl Tests {
     fn wait_ends(self, tenths: u64) -> bool
         ensures { λ r. ⌜ r ≡ waitEnds self tenths ⌝ }
     {
-        if self.wait == 0 {
-            return false;
-        }
-        if tenths < self.wait as u64 {
-            return false;
-        }
-        true
+        (self.wait != 0) & (self.wait as u64 <= tenths)
     }
 
     // The timers run on.
@@ -228,23 +241,23 @@ impl Channel {
     }
 
     // What an arrival leaves.
-    fn answered(self, answer: Answer) -> Arrived
+    fn answered(self, answer: Answer) -> Answered
         ensures { λ r. ⌜ r ≡ answered answer self ⌝ }
     {
-        if number(answer) == 0 {
-            return Arrived {
+        if say(answer).number == 0 {
+            return Answered {
                 answer,
                 channel: self.restarted(),
             };
         }
-        Arrived {
+        Answered {
             answer,
             channel: self,
         }
     }
 
     // A sorted telegram arrives, with the bytes behind its first and the lent buffer.
-    pub fn arrive(self, telegram: Sorted, payload: &[u8], buffer: &mut [u8]) -> Arrived
+    pub fn arrive(self, telegram: Sorted, payload: &[u8], buffer: &mut [u8]) -> Answered
         ensures { λ r. ⌜ r ≡ arrived longest self (telegram .kind) (now (payload .entry)) (length (now (buffer .entry))) ⌝ }
         ensures { λ r. ⌜ now (buffer .exit) ≡ bufferedBy longest self (telegram .kind) (now (payload .entry)) (now (buffer .entry)) ⌝ }
     {
@@ -269,7 +282,7 @@ impl Channel {
     }
 
     // Data arrives.
-    fn on_data(mut self, telegram: Sorted, payload: &[u8], buffer: &mut [u8]) -> Arrived
+    fn on_data(mut self, telegram: Sorted, payload: &[u8], buffer: &mut [u8]) -> Answered
         ensures { λ r. ⌜ r ≡ onData longest self (telegram .kind) (now (payload .entry)) (length (now (buffer .entry))) ⌝ }
         ensures { λ r. ⌜ now (buffer .exit) ≡ bufferedBy longest self (telegram .kind) (now (payload .entry)) (now (buffer .entry)) ⌝ }
     {
@@ -282,7 +295,7 @@ impl Channel {
     }
 
     // An Ack arrives.
-    fn on_ack(mut self, telegram: Sorted) -> Arrived
+    fn on_ack(mut self, telegram: Sorted) -> Answered
         ensures { λ r. ⌜ r ≡ onAck self (telegram .kind) ⌝ }
     {
         let sender = self.sender;
@@ -295,7 +308,7 @@ impl Channel {
     }
 
     // A test arrives.
-    fn on_test(mut self) -> Arrived
+    fn on_test(mut self) -> Answered
         ensures { λ r. ⌜ r ≡ onTest self ⌝ }
     {
         self.accept = true;
@@ -303,7 +316,7 @@ impl Channel {
     }
 
     // A break arrives.
-    fn on_break(mut self) -> Arrived
+    fn on_break(mut self) -> Answered
         ensures { λ r. ⌜ r ≡ onBreak self ⌝ }
     {
         let receiver = self.receiver;
@@ -313,7 +326,7 @@ impl Channel {
     }
 
     // An A1 arrives.
-    fn on_accept(mut self, fields: telegram::kinds::Parameters) -> Arrived
+    fn on_accept(mut self, fields: telegram::kinds::Parameters) -> Answered
         ensures { λ r. ⌜ r ≡ onAccept self fields ⌝ }
     {
         let out = self.tests.out;
@@ -321,21 +334,22 @@ impl Channel {
         if !out {
             return self.answered(Answer::NotDue);
         }
-        if block == 0 {
+        if bad_block(block) {
             return self.answered(Answer::BlockSize);
         }
-        if 15 < block {
-            return self.answered(Answer::BlockSize);
-        }
-        self.tests.out = false;
-        self.tests.again = false;
-        self.tests.wait = 0;
-        self.tests.unanswered = 0;
+        let tests = Tests {
+            out: false,
+            again: false,
+            wait: 0,
+            unanswered: 0,
+            interval: self.tests.interval,
+        };
+        self.tests = tests;
         self.answered(Answer::Good)
     }
 
     // Time passes.
-    pub fn elapse(self, tenths: u64) -> Elapsed
+    pub fn elapse(self, tenths: u64) -> Answered
         ensures { λ r. ⌜ r ≡ elapsed self tenths ⌝ }
     {
         let sender = self.sender;
@@ -347,7 +361,7 @@ impl Channel {
         let note = p.note;
         let next = p.sender;
         if repeats_used_up(note) {
-            return Elapsed {
+            return Answered {
                 answer: Answer::UsedUp,
                 channel: self,
             };
@@ -362,26 +376,26 @@ impl Channel {
             tests.interval = less(tests.interval, tenths);
             return self.went(next, tests);
         }
-        Elapsed {
+        Answered {
             answer: Answer::UsedUp,
             channel: self,
         }
     }
 
     // The timers ran on.
-    fn went(mut self, sender: Sender, tests: Tests) -> Elapsed
+    fn went(mut self, sender: Sender, tests: Tests) -> Answered
         ensures { λ r. ⌜ r ≡ went self sender tests ⌝ }
     {
         self.sender = sender;
         self.tests = tests;
-        Elapsed {
+        Answered {
             answer: Answer::Good,
             channel: self,
         }
     }
 
     // A message of len bytes is offered.
-    pub fn send(mut self, len: usize) -> Sent
+    pub fn send(mut self, len: usize) -> Answered
         ensures { λ r. ⌜ r ≡ sent longest self len ⌝ }
     {
         let sender = self.sender;
@@ -389,7 +403,7 @@ impl Channel {
         let next = o.sender;
         let note = o.note;
         self.sender = next;
-        Sent {
+        Answered {
             answer: offer_answer(note),
             channel: self,
         }
@@ -399,27 +413,11 @@ impl Channel {
     fn test_due(self) -> bool
         ensures { λ r. ⌜ r ≡ testDue self ⌝ }
     {
-        let out = self.tests.out;
-        let again = self.tests.again;
-        let left = self.tests.interval;
-        let interval = self.parameters.interval;
         let sender = self.sender;
-        if sender.has_unacknowledged() {
-            return false;
-        }
-        if again {
-            return true;
-        }
-        if out {
-            return false;
-        }
-        if left != 0 {
-            return false;
-        }
-        if 0 < interval {
-            return true;
-        }
-        false
+        let tests = self.tests;
+        let interval = self.parameters.interval;
+        !sender.has_unacknowledged()
+            & (tests.again | (!tests.out & (0 < interval) & (tests.interval == 0)))
     }
 
     // A telegram is asked for, and the message in sending is lent.

@@ -1,17 +1,14 @@
 -- 01, "Numbers we answer with".
 use Prim.Native.Nat.{ℕ}
-use mathlib.Core.Bool.{Bool, true, false}
+use mathlib.Core.Bool.{true, false}
 use Rattle.channel.specs.declared.Answer.{Answer as ChannelAnswer}
 use Rattle.channel.specs.declared.Answer.the-variants.{Good as ChannelGood, Done as ChannelDone, Disconnected, Malformed as ChannelMalformed, BlockSize as ChannelBlockSize, NotDue as ChannelNotDue, Busy as ChannelBusy, BadLength as ChannelBadLength, ShortBuffer as ChannelShortBuffer, UsedUp as ChannelUsedUp, Broken as ChannelBroken, NoChange as ChannelNoChange}
 use Rattle.connection.specs.declared.Answer.{Answer}
+use Rattle.connection.specs.declared.Said.{Said}
+use Rattle.connection.specs.declared.Told.{Told}
 use Rattle.connection.specs.declared.Answer.the-variants.{Good, Done, Malformed, BlockSize, OtherId, NotDue, Busy, BadLength, ShortBuffer, UsedUp, Broken, OutOfRange, Refused, NoChange}
 
--- what an answer says: its number in the table, whether a message is done, and the opcode of a refusal (else 0)
-pub record Said : Type 0 where
-  pub number : ℕ
-  pub done : Bool
-  pub opcode : ℕ
-
+-- an answer that carries its number alone
 abbrev pub plain : ℕ → Said
 plain n = record { number = n; done = false; opcode = 0 }
 
@@ -31,6 +28,10 @@ said (Broken c) = plain 9
 said OutOfRange = plain 10
 said (Refused opcode) = record { number = 11; done = false; opcode = opcode }
 said NoChange = plain 12
+
+-- what a call tells: the answer, and what it says
+abbrev pub told : Answer → Told
+told a = record { answer = a; said = said a }
 
 -- an open channel's answer, as the record's
 abbrev pub passedOn : ChannelAnswer → Answer

@@ -2,6 +2,7 @@
 use Prim.Native.Nat.{ℕ, _+_, min}
 use mathlib.Core.Bool.{Bool, true, false, not, _||_}
 use lib.Dec.{eqb}
+use mathlib.Core.Option.{Option, none, some}
 use Rattle.laws.specs.If.{if_then_else_}
 use Rattle.telegram.specs.Time.{tenthsOf}
 use Rattle.telegram.specs.declared.kinds.Parameters.{Parameters as Fields}
@@ -17,16 +18,19 @@ use Rattle.connection.specs.declared.Connection.{Connection}
 abbrev pub requestId : ℕ
 requestId = 0x200
 
--- the phases: closed, C0 unanswered, A0 unanswered, open
+-- the phase of a closed record
 abbrev pub isClosed : Connection → Bool
 isClosed c = eqb (c .phase) 0
 
+-- the C0 is unanswered
 abbrev pub isRequesting : Connection → Bool
 isRequesting c = eqb (c .phase) 1
 
+-- the A0 is unanswered
 abbrev pub isAgreeing : Connection → Bool
 isAgreeing c = eqb (c .phase) 2
 
+-- open: none of these
 abbrev pub isOpen : Connection → Bool
 isOpen c = not (isClosed c || isRequesting c || isAgreeing c)
 
@@ -66,14 +70,7 @@ requesting s = record { phase = 1; settings = s; transmit = 0; attempt = newAtte
 -- the D0 named the transmit ID: the A0 is due
 abbrev pub agreeing : Connection → ℕ → Connection
 agreeing c transmit =
-    record {
-      phase = 2;
-      settings = c .settings;
-      transmit = transmit;
-      attempt = newAttempt;
-      leaving = false;
-      channel = noChannel;
-    }
+    record { phase = 2; settings = c .settings; transmit = transmit; attempt = newAttempt; leaving = false; channel = noChannel }
 
 -- the fields of our own A0 and A1
 abbrev pub ownFields : Settings → Fields
@@ -101,28 +98,28 @@ opened c p =
       channel = fresh (agreed (c .settings) p);
     }
 
+-- a record with another request of the opening
 abbrev pub withAttempt : Connection → Attempt → Connection
 withAttempt c a =
-    record {
-      phase = c .phase;
-      settings = c .settings;
-      transmit = c .transmit;
-      attempt = a;
-      leaving = c .leaving;
-      channel = c .channel;
-    }
+    record { phase = c .phase; settings = c .settings; transmit = c .transmit; attempt = a; leaving = c .leaving; channel = c .channel }
 
+-- a record with another channel
 abbrev pub withChannel : Connection → Channel → Connection
 withChannel c ch =
-    record {
-      phase = c .phase;
-      settings = c .settings;
-      transmit = c .transmit;
-      attempt = c .attempt;
-      leaving = c .leaving;
-      channel = ch;
-    }
+    record { phase = c .phase; settings = c .settings; transmit = c .transmit; attempt = c .attempt; leaving = c .leaving; channel = ch }
 
--- the ID that row 3 asks of a record that is not closed: 0x200 + unit until the D0, then our receive ID
-abbrev pub listensOn : Connection → ℕ
-listensOn c = if isRequesting c then requestId + c .settings .unit else c .settings .receive
+-- the ID that a record listens on: none when it is closed, 0x200 + unit until the D0, then our receive ID
+unfoldable pub listensOn : Connection → Option ℕ
+listensOn c =
+    if isClosed c then none
+    else if isRequesting c then some (requestId + c .settings .unit)
+    else some (c .settings .receive)
+
+-- an ID is the one that is listened on
+abbrev pub isThat : ℕ → Option ℕ → Bool
+isThat id none = false
+isThat id (some x) = eqb id x
+
+-- row 3 asks whether a frame comes on the ID that the record listens on
+abbrev pub hears : Connection → (id : ℕ) → Bool
+hears c id = isThat id (listensOn c)

@@ -7,11 +7,10 @@ ghost use Prim.Native.Nat.{min};
 ghost use lib.ListN.{length, take, drop};
 ghost use Rattle.telegram.specs.Cutting.{longest};
 ghost use Rattle.telegram.specs.Kinds.{sorted};
-ghost use Rattle.channel.specs.Numbers.{closes};
 ghost use Rattle.channel.specs.Opened.{bufferedBy};
-ghost use Rattle.connection.specs.Numbers.{said, passedOn};
-ghost use Rattle.connection.specs.Record.{noAttempt, newAttempt, noChannel, closedRecord, leavingOn, requesting, agreeing, ownFields, agreed, opened, listensOn, isOpen};
-ghost use Rattle.connection.specs.Calls.{notDue, opening, onReply, onAccept, onAgreeing, settled, onOpen, arrived, buffered, attemptElapsed, elapsed, noFrame, closedDue, requestDue, openDue, dueOf, sentBy, takenBy, takes, looked, closed};
+ghost use Rattle.connection.specs.Numbers.{plain, said, told, passedOn};
+ghost use Rattle.connection.specs.Record.{noAttempt, newAttempt, noChannel, closedRecord, leavingOn, requesting, agreeing, ownFields, agreed, opened, hears, isOpen};
+ghost use Rattle.connection.specs.Calls.{gives, handOver, handNothing, shows, opening, onReply, onAccept, onAgreeing, settled, onOpen, arrived, buffered, attemptElapsed, elapsed, noFrame, closedDue, requestDue, openDue, dueOf, sentBy, takenBy, takes, looked, closed};
 use channel::Channel;
 use receiver::Cause;
 use receiver::Taking;
@@ -19,6 +18,7 @@ use sender::Terms;
 use settings::Settings;
 use telegram::kinds::Parameters as Fields;
 use telegram::kinds::Telegram;
+use telegram::kinds::bad_block;
 use telegram::kinds::sort;
 use telegram::kinds::write_disconnect;
 use telegram::kinds::write_setup;
@@ -31,23 +31,23 @@ use telegram::time::tenths;
 
 // A request of the opening, C0 or A0. A timer at 0 does not run.
 pub struct Attempt {
+    // What is left of the wait for the reply (T_E).
+    pub wait: u32,
     // It is due.
     pub due: bool,
     // It was handed over at least once.
     pub asked: bool,
-    // What is left of the wait for the reply (T_E).
-    pub wait: u32,
     // How often it was repeated.
     pub repeats: u8,
 }
 
 // The record. Phases: 0 closed, 1 C0 unanswered, 2 A0 unanswered, 3 open.
 pub struct Connection {
-    pub phase: u8,
     pub settings: Settings,
+    pub attempt: Attempt,
     // The transmit ID, from the D0 on; in a closed record that of the A8 that is due.
     pub transmit: u16,
-    pub attempt: Attempt,
+    pub phase: u8,
     // Closed, with one A8 due.
     pub leaving: bool,
     pub channel: Channel,
@@ -79,51 +79,97 @@ pub struct Frame {
     pub payload: Payload,
 }
 
-pub struct Opened {
-    pub answer: Answer,
-    pub connection: Connection,
+// What an answer says: its number in the protocol's table, whether the message in sending is done, and the opcode of a
+// refusal, else 0.
+pub struct Said {
+    pub number: u8,
+    pub done: bool,
+    pub opcode: u8,
 }
 
-pub struct Arrived {
+// An answer, and what it says.
+pub struct Told {
     pub answer: Answer,
-    pub connection: Connection,
+    pub said: Said,
 }
 
-pub struct Elapsed {
-    pub answer: Answer,
+// What a call tells, and the record that it leaves.
+pub struct Answered {
+    pub told: Told,
     pub connection: Connection,
 }
 
 // A frame to hand over, if one is given; else ID 0 and no bytes.
 pub struct Due {
-    pub answer: Answer,
+    pub told: Told,
     pub given: bool,
     pub frame: Frame,
     pub connection: Connection,
 }
 
-pub struct Sent {
-    pub answer: Answer,
-    pub connection: Connection,
-}
-
 // What taking a message comes to: where it is shown, len is its declared length, and else 0.
 pub struct TakeStep {
-    pub answer: Answer,
+    pub told: Told,
     pub len: usize,
     pub connection: Connection,
 }
 
 // A message taken: the first part of the lent buffer, and nothing of it where none is shown.
 pub struct Taken<'a> {
-    pub answer: Answer,
+    pub told: Told,
     pub connection: Connection,
     pub message: &'a [u8],
 }
 
-pub struct Closed {
-    pub answer: Answer,
-    pub connection: Connection,
+// An answer that carries its number alone.
+fn plain(number: u8) -> Said
+    ensures { λ r. ⌜ r ≡ plain number ⌝ }
+{
+    Said {
+        number,
+        done: false,
+        opcode: 0,
+    }
+}
+
+// An answer's number, and the values that it carries.
+pub fn say(answer: Answer) -> Said
+    ensures { λ r. ⌜ r ≡ said answer ⌝ }
+{
+    match answer {
+        Answer::Good => plain(0),
+        Answer::Done => Said {
+            number: 0,
+            done: true,
+            opcode: 0,
+        },
+        Answer::Malformed => plain(1),
+        Answer::BlockSize => plain(2),
+        Answer::OtherId => plain(3),
+        Answer::NotDue => plain(4),
+        Answer::Busy => plain(5),
+        Answer::BadLength => plain(6),
+        Answer::ShortBuffer => plain(7),
+        Answer::UsedUp => plain(8),
+        Answer::Broken(_) => plain(9),
+        Answer::OutOfRange => plain(10),
+        Answer::Refused(opcode) => Said {
+            number: 11,
+            done: false,
+            opcode,
+        },
+        Answer::NoChange => plain(12),
+    }
+}
+
+// An answer, with what it says.
+fn tell(answer: Answer) -> Told
+    ensures { λ r. ⌜ r ≡ told answer ⌝ }
+{
+    Told {
+        answer,
+        said: say(answer),
+    }
 }
 
 // An open channel's answer, as the record's.
@@ -143,26 +189,6 @@ fn pass_on(answer: channel::Answer) -> Answer
         channel::Answer::UsedUp => Answer::UsedUp,
         channel::Answer::Broken(cause) => Answer::Broken(cause),
         channel::Answer::NoChange => Answer::NoChange,
-    }
-}
-
-// Whether an open channel's answer closes the record.
-fn ends(answer: channel::Answer) -> bool
-    ensures { λ r. ⌜ r ≡ closes answer ⌝ }
-{
-    match answer {
-        channel::Answer::Good => false,
-        channel::Answer::Done => false,
-        channel::Answer::Disconnected => true,
-        channel::Answer::Malformed => false,
-        channel::Answer::BlockSize => false,
-        channel::Answer::NotDue => false,
-        channel::Answer::Busy => false,
-        channel::Answer::BadLength => false,
-        channel::Answer::ShortBuffer => false,
-        channel::Answer::UsedUp => true,
-        channel::Answer::Broken(_) => false,
-        channel::Answer::NoChange => false,
     }
 }
 
@@ -308,81 +334,113 @@ impl Connection {
         c
     }
 
+    // Opening: the C0 is due.
+    fn requesting(settings: Settings) -> Connection
+        ensures { λ r. ⌜ r ≡ requesting settings ⌝ }
+    {
+        Connection {
+            phase: 1,
+            settings,
+            transmit: 0,
+            attempt: new_attempt(),
+            leaving: false,
+            channel: no_channel(),
+        }
+    }
+
+    // What a call tells, with this record left.
+    fn gives(self, answer: Answer) -> Answered
+        ensures { λ r. ⌜ r ≡ gives answer self ⌝ }
+    {
+        Answered {
+            told: tell(answer),
+            connection: self,
+        }
+    }
+
+    // A frame is handed over, with this record left.
+    fn hand_over(self, answer: Answer, frame: Frame) -> Due
+        ensures { λ r. ⌜ r ≡ handOver answer frame self ⌝ }
+    {
+        Due {
+            told: tell(answer),
+            given: true,
+            frame,
+            connection: self,
+        }
+    }
+
+    // No frame is handed over, with this record left.
+    fn hand_nothing(self, answer: Answer) -> Due
+        ensures { λ r. ⌜ r ≡ handNothing answer self ⌝ }
+    {
+        Due {
+            told: tell(answer),
+            given: false,
+            frame: no_frame(),
+            connection: self,
+        }
+    }
+
+    // What a take comes to, with this record left.
+    fn shows(self, answer: Answer, len: usize) -> TakeStep
+        ensures { λ r. ⌜ r ≡ shows answer len self ⌝ }
+    {
+        TakeStep {
+            told: tell(answer),
+            len,
+            connection: self,
+        }
+    }
+
     // Opens a closed connection: the C0 is due.
-    pub fn open(self, settings: Settings) -> Opened
+    pub fn open(self, settings: Settings) -> Answered
         ensures { λ r. ⌜ r ≡ opening self settings ⌝ }
     {
         let phase = self.phase;
         if phase != 0 {
-            return Opened {
-                answer: Answer::NotDue,
-                connection: self,
-            };
+            return self.gives(Answer::NotDue);
         }
         if !settings.in_range() {
-            return Opened {
-                answer: Answer::OutOfRange,
-                connection: self,
-            };
+            return self.gives(Answer::OutOfRange);
         }
-        Opened {
-            answer: Answer::Good,
-            connection: Connection {
-                phase: 1,
-                settings,
-                transmit: 0,
-                attempt: new_attempt(),
-                leaving: false,
-                channel: no_channel(),
-            },
-        }
+        Connection::requesting(settings).gives(Answer::Good)
     }
 
-    // The ID that a record which is not closed listens on.
-    fn listens_on(self) -> u16
-        ensures { λ r. ⌜ r ≡ listensOn self ⌝ }
+    // Whether a frame's ID is the one that the record listens on.
+    fn hears(self, id: u16) -> bool
+        ensures { λ r. ⌜ r ≡ hears self id ⌝ }
     {
         let phase = self.phase;
         let unit = self.settings.unit;
-        if phase == 1 {
-            return 0x200 + unit as u16;
+        let receive = self.settings.receive;
+        if phase == 0 {
+            return false;
         }
-        self.settings.receive
+        if phase == 1 {
+            return id == 0x200 + unit as u16;
+        }
+        id == receive
     }
 
     // A reply to the C0.
-    fn on_reply(mut self, reply: Reply) -> Arrived
+    fn on_reply(mut self, reply: Reply) -> Answered
         ensures { λ r. ⌜ r ≡ onReply self reply ⌝ }
     {
         let asked = self.attempt.asked;
         match reply {
-            Reply::Malformed => Arrived {
-                answer: Answer::Malformed,
-                connection: self,
-            },
+            Reply::Malformed => self.gives(Answer::Malformed),
             Reply::Refused(opcode) => {
                 if !asked {
-                    return Arrived {
-                        answer: Answer::NotDue,
-                        connection: self,
-                    };
+                    return self.gives(Answer::NotDue);
                 }
-                Arrived {
-                    answer: Answer::Refused(opcode),
-                    connection: Connection::closed(),
-                }
+                Connection::closed().gives(Answer::Refused(opcode))
             }
             Reply::Positive(transmit) => {
                 if !asked {
-                    return Arrived {
-                        answer: Answer::NotDue,
-                        connection: self,
-                    };
+                    return self.gives(Answer::NotDue);
                 }
-                Arrived {
-                    answer: Answer::Good,
-                    connection: self.agreeing(transmit),
-                }
+                self.agreeing(transmit).gives(Answer::Good)
             }
         }
     }
@@ -418,115 +476,69 @@ impl Connection {
     }
 
     // A telegram while the A1 is awaited.
-    fn on_agreeing(self, kind: Telegram) -> Arrived
+    fn on_agreeing(self, kind: Telegram) -> Answered
         ensures { λ r. ⌜ r ≡ onAgreeing self kind ⌝ }
     {
         match kind {
             Telegram::Accept(fields) => self.on_accept(fields),
-            Telegram::Disconnect => Arrived {
-                answer: Answer::Good,
-                connection: Connection::leaving_on(self.transmit),
-            },
-            Telegram::Malformed => Arrived {
-                answer: Answer::Malformed,
-                connection: self,
-            },
+            Telegram::Disconnect => Connection::leaving_on(self.transmit).gives(Answer::Good),
+            Telegram::Malformed => self.gives(Answer::Malformed),
             Telegram::Data {
                 asks: _,
                 last: _,
                 number: _,
-            } => self.not_due(),
+            } => self.gives(Answer::NotDue),
             Telegram::Ack {
                 ready: _,
                 number: _,
-            } => self.not_due(),
-            Telegram::Test => self.not_due(),
-            Telegram::Break => self.not_due(),
-            Telegram::Setup(_) => self.not_due(),
-        }
-    }
-
-    // A kind that is not due.
-    fn not_due(self) -> Arrived
-        ensures { λ r. ⌜ r ≡ notDue self ⌝ }
-    {
-        Arrived {
-            answer: Answer::NotDue,
-            connection: self,
+            } => self.gives(Answer::NotDue),
+            Telegram::Test => self.gives(Answer::NotDue),
+            Telegram::Break => self.gives(Answer::NotDue),
+            Telegram::Setup(_) => self.gives(Answer::NotDue),
         }
     }
 
     // The A1 that is awaited.
-    fn on_accept(self, fields: Fields) -> Arrived
+    fn on_accept(self, fields: Fields) -> Answered
         ensures { λ r. ⌜ r ≡ onAccept self fields ⌝ }
     {
         let asked = self.attempt.asked;
         let block = fields.block;
         if !asked {
-            return Arrived {
-                answer: Answer::NotDue,
-                connection: self,
-            };
+            return self.gives(Answer::NotDue);
         }
-        if block == 0 {
-            return Arrived {
-                answer: Answer::BlockSize,
-                connection: self,
-            };
+        if bad_block(block) {
+            return self.gives(Answer::BlockSize);
         }
-        if 15 < block {
-            return Arrived {
-                answer: Answer::BlockSize,
-                connection: self,
-            };
-        }
-        Arrived {
-            answer: Answer::Good,
-            connection: self.opened(fields),
-        }
+        self.opened(fields).gives(Answer::Good)
     }
 
     // Closes: one A8 is due if the transmit ID is known.
-    pub fn close(self) -> Closed
+    pub fn close(self) -> Answered
         ensures { λ r. ⌜ r ≡ closed self ⌝ }
     {
         let phase = self.phase;
         if phase == 0 {
-            return Closed {
-                answer: Answer::NotDue,
-                connection: self,
-            };
+            return self.gives(Answer::NotDue);
         }
         if phase == 1 {
-            return Closed {
-                answer: Answer::Good,
-                connection: Connection::closed(),
-            };
+            return Connection::closed().gives(Answer::Good);
         }
-        Closed {
-            answer: Answer::Good,
-            connection: Connection::leaving_on(self.transmit),
-        }
+        Connection::leaving_on(self.transmit).gives(Answer::Good)
     }
 
     // A CAN frame arrives, and a buffer is lent.
-    pub fn arrive(self, id: u16, bytes: &[u8], buffer: &mut [u8]) -> Arrived
+    pub fn arrive(self, id: u16, bytes: &[u8], buffer: &mut [u8]) -> Answered
         ensures { λ r. ⌜ r ≡ arrived longest self id (now (bytes .entry)) (length (now (buffer .entry))) ⌝ }
         ensures { λ r. ⌜ now (buffer .exit) ≡ buffered longest self id (now (bytes .entry)) (now (buffer .entry)) ⌝ }
     {
         let phase = self.phase;
         let receive = self.settings.receive;
         if phase == 0 {
-            return Arrived {
-                answer: Answer::NotDue,
-                connection: self,
-            };
+            return self.gives(Answer::NotDue);
         }
-        if id != self.listens_on() {
-            return Arrived {
-                answer: Answer::OtherId,
-                connection: self,
-            };
+        if !self.hears(id) {
+            return self.gives(Answer::OtherId);
         }
         if phase == 1 {
             return self.on_reply(read_reply(bytes, receive));
@@ -540,7 +552,7 @@ impl Connection {
     }
 
     // A frame on an open connection: the channel answers.
-    fn on_open(self, bytes: &[u8], buffer: &mut [u8]) -> Arrived
+    fn on_open(self, bytes: &[u8], buffer: &mut [u8]) -> Answered
         ensures { λ r. ⌜ r ≡ onOpen longest self (now (bytes .entry)) (length (now (buffer .entry))) ⌝ }
         ensures { λ r. ⌜ now (buffer .exit) ≡ bufferedBy longest (self .channel) (sorted (now (bytes .entry)) .kind) (drop 1 (now (bytes .entry))) (now (buffer .entry)) ⌝ }
     {
@@ -548,55 +560,48 @@ impl Connection {
         let r = ch.arrive(sort(bytes), behind_first(bytes), buffer);
         let answer = r.answer;
         let next = r.channel;
-        Arrived {
-            answer: pass_on(answer),
-            connection: self.settled(answer, next),
-        }
+        self.settled(answer, next).gives(pass_on(answer))
     }
 
     // What an open channel's answer leaves of the record.
     fn settled(mut self, answer: channel::Answer, next: Channel) -> Connection
         ensures { λ r. ⌜ r ≡ settled self answer next ⌝ }
     {
-        if channel::number(answer) == 8 {
-            return Connection::closed();
+        let said = channel::say(answer);
+        let number = said.number;
+        let left = said.left;
+        if (number != 8) & !left {
+            self.channel = next;
+            return self;
         }
-        if ends(answer) {
-            return Connection::leaving_on(self.transmit);
+        let mut c = Connection::closed();
+        if number != 8 {
+            c.transmit = self.transmit;
+            c.leaving = true;
         }
-        self.channel = next;
-        self
+        c
     }
 
     // Time passes.
-    pub fn elapse(self, tenths: u64) -> Elapsed
+    pub fn elapse(self, tenths: u64) -> Answered
         ensures { λ r. ⌜ r ≡ elapsed self tenths ⌝ }
     {
         let phase = self.phase;
         if phase == 0 {
-            return Elapsed {
-                answer: Answer::Good,
-                connection: self,
-            };
+            return self.gives(Answer::Good);
         }
-        if phase == 1 {
-            return self.attempt_elapses(tenths);
-        }
-        if phase == 2 {
+        if !self.is_open() {
             return self.attempt_elapses(tenths);
         }
         let ch = self.channel;
         let r = ch.elapse(tenths);
         let answer = r.answer;
         let next = r.channel;
-        Elapsed {
-            answer: pass_on(answer),
-            connection: self.settled(answer, next),
-        }
+        self.settled(answer, next).gives(pass_on(answer))
     }
 
     // Time passes while a reply is awaited.
-    fn attempt_elapses(mut self, tenths: u64) -> Elapsed
+    fn attempt_elapses(mut self, tenths: u64) -> Answered
         ensures { λ r. ⌜ r ≡ attemptElapsed self tenths ⌝ }
     {
         let mut a = self.attempt;
@@ -604,33 +609,21 @@ impl Connection {
         let repeats = a.repeats;
         let most = self.settings.requests;
         if wait == 0 {
-            return Elapsed {
-                answer: Answer::Good,
-                connection: self,
-            };
+            return self.gives(Answer::Good);
         }
         if tenths < wait as u64 {
             a.wait = less(wait, tenths);
             self.attempt = a;
-            return Elapsed {
-                answer: Answer::Good,
-                connection: self,
-            };
+            return self.gives(Answer::Good);
         }
-        if most <= repeats {
-            return Elapsed {
-                answer: Answer::UsedUp,
-                connection: Connection::closed(),
-            };
+        if repeats < most {
+            a.due = true;
+            a.wait = 0;
+            a.repeats = repeats + 1;
+            self.attempt = a;
+            return self.gives(Answer::Good);
         }
-        a.due = true;
-        a.wait = 0;
-        a.repeats = repeats + 1;
-        self.attempt = a;
-        Elapsed {
-            answer: Answer::Good,
-            connection: self,
-        }
+        Connection::closed().gives(Answer::UsedUp)
     }
 
     // What is due: at most one frame, the message in sending being lent.
@@ -663,22 +656,16 @@ impl Connection {
         let leaving = self.leaving;
         let transmit = self.transmit;
         if !leaving {
-            return Due {
-                answer: Answer::Good,
-                given: false,
-                frame: no_frame(),
-                connection: self,
-            };
+            return self.hand_nothing(Answer::Good);
         }
-        Due {
-            answer: Answer::Good,
-            given: true,
-            frame: Frame {
+        let payload = write_disconnect();
+        Connection::closed().hand_over(
+            Answer::Good,
+            Frame {
                 id: transmit,
-                payload: write_disconnect(),
+                payload,
             },
-            connection: Connection::closed(),
-        }
+        )
     }
 
     // The request of the opening, if it is due.
@@ -688,23 +675,13 @@ impl Connection {
         let mut a = self.attempt;
         let due = a.due;
         if !due {
-            return Due {
-                answer: Answer::Good,
-                given: false,
-                frame: no_frame(),
-                connection: self,
-            };
+            return self.hand_nothing(Answer::Good);
         }
         a.due = false;
         a.asked = true;
         a.wait = self.settings.reply as u32;
         self.attempt = a;
-        Due {
-            answer: Answer::Good,
-            given: true,
-            frame,
-            connection: self,
-        }
+        self.hand_over(Answer::Good, frame)
     }
 
     // What an open channel has due, on the transmit ID.
@@ -718,44 +695,32 @@ impl Connection {
         let next = d.channel;
         self.channel = next;
         if !given {
-            return Due {
-                answer: pass_on(answer),
-                given: false,
-                frame: no_frame(),
-                connection: self,
-            };
+            return self.hand_nothing(pass_on(answer));
         }
         let payload = d.payload;
-        Due {
-            answer: pass_on(answer),
-            given: true,
-            frame: Frame {
-                id: self.transmit,
+        let transmit = self.transmit;
+        self.hand_over(
+            pass_on(answer),
+            Frame {
+                id: transmit,
                 payload,
             },
-            connection: self,
-        }
+        )
     }
 
     // A message to send.
-    pub fn send(mut self, message: &[u8]) -> Sent
+    pub fn send(mut self, message: &[u8]) -> Answered
         ensures { λ r. ⌜ r ≡ sentBy longest self (length (now (message .entry))) ⌝ }
     {
         if !self.is_open() {
-            return Sent {
-                answer: Answer::NotDue,
-                connection: self,
-            };
+            return self.gives(Answer::NotDue);
         }
         let ch = self.channel;
         let r = ch.send(message.len());
         let answer = r.answer;
         let next = r.channel;
         self.channel = next;
-        Sent {
-            answer: pass_on(answer),
-            connection: self,
-        }
+        self.gives(pass_on(answer))
     }
 
     // What taking a message comes to, in a lent buffer of room bytes.
@@ -763,11 +728,7 @@ impl Connection {
         ensures { λ r. ⌜ r ≡ takenBy self room ⌝ }
     {
         if !self.is_open() {
-            return TakeStep {
-                answer: Answer::NotDue,
-                len: 0,
-                connection: self,
-            };
+            return self.shows(Answer::NotDue, 0);
         }
         let mut ch = self.channel;
         let receiver = ch.receiver;
@@ -778,21 +739,9 @@ impl Connection {
         ch.receiver = left;
         self.channel = ch;
         match note {
-            Taking::Shown => TakeStep {
-                answer: Answer::Good,
-                len: complete.length as usize,
-                connection: self,
-            },
-            Taking::NoneComplete => TakeStep {
-                answer: Answer::Busy,
-                len: 0,
-                connection: self,
-            },
-            Taking::ShortBuffer => TakeStep {
-                answer: Answer::ShortBuffer,
-                len: 0,
-                connection: self,
-            },
+            Taking::Shown => self.shows(Answer::Good, complete.length as usize),
+            Taking::NoneComplete => self.shows(Answer::Busy, 0),
+            Taking::ShortBuffer => self.shows(Answer::ShortBuffer, 0),
         }
     }
 
@@ -803,7 +752,7 @@ impl Connection {
         let step = self.take_step(buffer.len());
         let message = shown(buffer, step.len);
         Taken {
-            answer: step.answer,
+            told: step.told,
             connection: step.connection,
             message,
         }

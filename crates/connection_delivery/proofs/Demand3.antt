@@ -7,11 +7,11 @@ use mathlib.Core.Path.{_≡_, refl, sym, ap, subst, _∙_}
 use lib.ListN.{length, getD}
 use Rattle.channel.specs.declared.Channel.{Channel}
 use Rattle.connection.specs.declared.Connection.{Connection}
-use Rattle.delivery.specs.System.{System, Flying, History, Call, step as systemStep, run as systemRun}
+use Rattle.delivery.specs.System.{System, Flying, History, Call, isData, step as systemStep, run as systemRun}
 use Rattle.delivery.specs.System.Side.{near, far}
 use Rattle.delivery.specs.System.Fate.{goes, stays, lost}
 use Rattle.delivery.specs.System.Call.{send, take as takes, time, due, arrive}
-use Rattle.delivery.specs.Claim.{Fresh, NoTest, InTime, isData, NoneWaits, TakenFirst, AtRest, Always as SystemAlways, Along as SystemAlong, Delivered as SystemDelivered}
+use Rattle.delivery.specs.Claim.{Fresh, NoTest, InTime, NoneWaits, TakenFirst, AtRest, Always as SystemAlways, Along as SystemAlong, Delivered as SystemDelivered}
 use Rattle.delivery.proofs.Steps.{IsAck, Every, Sides, step-moves}
 use Rattle.delivery.proofs.First.{fresh-sides, first-half}
 use Rattle.delivery.proofs.Second.{stays-open, second-half}
@@ -126,6 +126,12 @@ module _ (limit : ℕ) (a b : Connection) (ids : Crossing a b) where
               let open′ = stays-open limit start f cs (r .noTest) i′ k′ few′ in
               rw (r .ran)
               (second-half limit start f cs (r .noTest) i′ k′ (at-rest (systemRun limit start cs) open′ (r .fits .sides .open′) (rw (r .ran) at rest)) few′);
+          stays = λ t i k few.
+              let r = run-lifts limit a b ids cs start fits t in
+              let i′ = along InTime in-time cs start (fits .sides) (r .noTest) i in
+              let k′ = along TakenFirst taken-first cs start (fits .sides) (r .noTest) k in
+              let open′ = stays-open limit start f cs (r .noTest) i′ k′ (rw (r .ran) at few) in
+              rw (r .ran, open′);
         }
 
 -- ---- two fresh records

@@ -1,7 +1,7 @@
 -- What each call does to an open record, told of its channel: an answer of 8 leaves the closed record, and every other the record with the channel that it left.
 use Prim.Native.Nat.{ℕ, _+_}
 use native.Mathlib.Omega.{arith}
-use mathlib.Core.Bool.{Bool, true, false, not, false≢true}
+use mathlib.Core.Bool.{Bool, true, false, not, _||_, false≢true}
 use mathlib.Core.List.{List}
 use mathlib.Core.Path.{_≡_, refl, sym, _∙_}
 use lib.Dec.{eqb, ltb, leb}
@@ -26,16 +26,15 @@ use Rattle.receiver.specs.declared.Receipt.the-variants.{Used, Complete, Thrown
 use Rattle.channel.specs.declared.Channel.{Channel}
 use Rattle.channel.specs.declared.Answer.{Answer}
 use Rattle.channel.specs.declared.Answer.the-variants.{Good, Done, Disconnected, Malformed, BlockSize, NotDue, Busy, BadLength, ShortBuffer, UsedUp, Broken, NoChange}
-use Rattle.channel.specs.declared.Arrived.{Arrived as ChannelArrived}
-use Rattle.channel.specs.declared.Elapsed.{Elapsed as ChannelElapsed}
+use Rattle.channel.specs.declared.Answered.{Answered as ChannelAnswered}
 use Rattle.channel.specs.declared.Due.{Due as ChannelDue}
-use Rattle.channel.specs.Numbers.{numberOf, saysDone, closes}
+use Rattle.channel.specs.Numbers.{said as channelSaid, closes}
 use Rattle.channel.specs.Opened.{withSender, bufferedBy, dataAnswer, ackAnswer, offerAnswer, answered, onData, onAck as ackOn, arrived as channelArrived, repeatsUsedUp, waitEnds, elapsed as channelElapsed, testDue, handAccept, handTest, handAck, handBy, handData, due as channelDue, sent as channelSent}
 use Rattle.connection.specs.declared.Connection.{Connection}
-use Rattle.connection.specs.declared.Answer.the-variants.{Good as AnswerGood}
+use Rattle.connection.specs.declared.Answer.the-variants.{Good as AnswerGood, NotDue as AnswerNotDue}
 use Rattle.connection.specs.Numbers.{said, passedOn}
-use Rattle.connection.specs.Record.{closedRecord, leavingOn}
-use Rattle.connection.specs.Calls.{settled, onOpen, arrived, buffered, elapsed, openDue, closedDue, dueOf, noFrame, notDue, nothingDue}
+use Rattle.connection.specs.Record.{listensOn, closedRecord, leavingOn}
+use Rattle.connection.specs.Calls.{settled, onOpen, arrived, buffered, elapsed, openDue, closedDue, dueOf, gives, handOver, handNothing}
 use Rattle.delivery.proofs.Steps.{IsData, IsAck}
 
 -- ---- records
@@ -60,7 +59,7 @@ recordOf a false ch = closedRecord
 -- ---- answers
 
 -- the record passes on the channel's number, and whether a message is done
-pub said-passed : (x : Answer) → (said (passedOn x) .number ≡ numberOf x) × (said (passedOn x) .done ≡ saysDone x)
+pub said-passed : (x : Answer) → (said (passedOn x) .number ≡ channelSaid x .number) × (said (passedOn x) .done ≡ channelSaid x .done)
 said-passed Good = (refl, refl)
 said-passed Done = (refl, refl)
 said-passed Disconnected = (refl, refl)
@@ -76,30 +75,34 @@ said-passed NoChange = (refl, refl)
 
 -- an answer other than to a disconnect: only 8 closes, and leaves the channel as it was
 pub record Settles (c : Channel) (x : Answer) (ch : Channel) : Type 0 where
-  pub by-8 : closes x ≡ eqb (numberOf x) 8
+  pub stays : channelSaid x .left ≡ false
   pub kept : closes x ≡ true → ch ≡ c
 
 -- what such an answer leaves of an open record
 settled-as : (a : Connection) {c ch : Channel} {x : Answer} → Settles c x ch → settled (openOn a c) x ch ≡ recordOf a (not (closes x)) ch
 unfolding settled
-settled-as a {c} {ch} {x} s = rw (s .by-8) (go (eqb (numberOf x) 8))
+settled-as a {c} {ch} {x} s = rw (s .stays) (go (eqb (channelSaid x .number) 8))
   where
-    go : (t : Bool) → (if t then closedRecord else if t then leavingOn (a .transmit) else openOn a ch) ≡ recordOf a (not t) ch
+    go : (t : Bool) → (if t then closedRecord else openOn a ch) ≡ recordOf a (not (t || false)) ch
     go true = refl
     go false = refl
 
 -- ---- a frame arrives
 
+or-left : (x : Bool) {y : Bool} → y ≡ false → (x || y) ≡ true → x ≡ true
+or-left true e o = refl
+or-left false e o = absurd (false≢true (sym e ∙ o))
+
 -- a frame answered 0 only starts the interval again
-answered-settles : (c ch : Channel) (x : Answer) → closes x ≡ eqb (numberOf x) 8 → (closes x ≡ true → ch ≡ c)
+answered-settles : (c ch : Channel) (x : Answer) → channelSaid x .left ≡ false → (closes x ≡ true → ch ≡ c)
     → Settles c (answered x ch .answer) (answered x ch .channel)
 unfolding answered
 answered-settles c ch x e k =
-    by (λ (r : ChannelArrived). Settles c (r .answer) (r .channel)) (eqb (numberOf x) 0)
-    (λ z. record { by-8 = e; kept = λ y. absurd (omega (arith, eqb-true (numberOf x) 0 z, eqb-true (numberOf x) 8 (sym e ∙ y))) })
-    λ _. record { by-8 = e; kept = k }
+    by (λ (r : ChannelAnswered). Settles c (r .answer) (r .channel)) (eqb (channelSaid x .number) 0)
+    (λ z. record { stays = e; kept = λ y. absurd (omega (arith, eqb-true (channelSaid x .number) 0 z, eqb-true (channelSaid x .number) 8 (or-left (eqb (channelSaid x .number) 8) e y))) })
+    λ _. record { stays = e; kept = k }
 
-goes-on : {c : Channel} (ch : Channel) (x : Answer) → closes x ≡ eqb (numberOf x) 8 → closes x ≡ false → Settles c (answered x ch .answer) (answered x ch .channel)
+goes-on : {c : Channel} (ch : Channel) (x : Answer) → channelSaid x .left ≡ false → closes x ≡ false → Settles c (answered x ch .answer) (answered x ch .channel)
 goes-on {c} ch x e f = answered-settles c ch x e λ y. absurd (false≢true (sym f ∙ y))
 
 module _ (limit : ℕ) (c : Channel) (k : Telegram) (p : List ℕ) (room : ℕ) where
@@ -144,12 +147,12 @@ module _ (limit : ℕ) (c : Channel) (k : Telegram) (p : List ℕ) (room : ℕ) 
 module _ (limit : ℕ) (a : Connection) (c : Channel) (s : List ℕ) where
   pub arrived-open : (room : ℕ) → (let r = channelArrived limit c (sorted s .kind) (drop 1 s) room in
       Settles c (r .answer) (r .channel) → arrived limit (openOn a c) (a .settings .receive) s room
-      ≡ record { answer = passedOn (r .answer); connection = recordOf a (not (closes (r .answer))) (r .channel) })
-  unfolding arrived onOpen
+      ≡ gives (passedOn (r .answer)) (recordOf a (not (closes (r .answer))) (r .channel)))
+  unfolding listensOn arrived onOpen
   arrived-open room e = rw (eq-eqb (a .settings .receive) (a .settings .receive) refl, settled-as a e)
 
   pub buffered-open : (b : List ℕ) → buffered limit (openOn a c) (a .settings .receive) s b ≡ bufferedBy limit c (sorted s .kind) (drop 1 s) b
-  unfolding buffered
+  unfolding listensOn buffered
   buffered-open b = rw (eq-eqb (a .settings .receive) (a .settings .receive) refl)
 
 -- ---- time passes
@@ -161,17 +164,17 @@ elapsed-settles c n =
     by-not P (waitEnds (c .tests) n) (λ _. went) λ _.
     by P (leb (c .parameters .allowed) (c .tests .unanswered)) (λ _. gone) λ _. went
   where
-    P : ChannelElapsed → Type 0
+    P : ChannelAnswered → Type 0
     P r = Settles c (r .answer) (r .channel)
 
     gone : Settles c UsedUp c
-    gone = record { by-8 = refl; kept = λ _. refl }
+    gone = record { stays = refl; kept = λ _. refl }
 
     went : {ch : Channel} → Settles c Good ch
-    went = record { by-8 = refl; kept = λ e. absurd (false≢true e) }
+    went = record { stays = refl; kept = λ e. absurd (false≢true e) }
 
 pub elapsed-open : (a : Connection) (c : Channel) (n : ℕ) → (let r = channelElapsed c n in
-    elapsed (openOn a c) n ≡ record { answer = passedOn (r .answer); connection = recordOf a (not (closes (r .answer))) (r .channel) })
+    elapsed (openOn a c) n ≡ gives (passedOn (r .answer)) (recordOf a (not (closes (r .answer))) (r .channel)))
 unfolding elapsed
 elapsed-open a c n = rw (settled-as a (elapsed-settles c n))
 
@@ -196,17 +199,12 @@ due-goes-on c m =
 module _ (a : Connection) (c : Channel) (m : List ℕ) where
   pub due-given : channelDue c m .given ≡ true
       → dueOf (openOn a c) m
-      ≡ record {
-        answer = passedOn (channelDue c m .answer);
-        given = true;
-        frame = record { id = a .transmit; payload = channelDue c m .payload };
-        connection = openOn a (channelDue c m .channel);
-      }
+      ≡ handOver (passedOn (channelDue c m .answer)) (record { id = a .transmit; payload = channelDue c m .payload }) (openOn a (channelDue c m .channel))
   unfolding dueOf openDue
   due-given e = rw e
 
   pub due-none : channelDue c m .given ≡ false
-      → dueOf (openOn a c) m ≡ record { answer = passedOn (channelDue c m .answer); given = false; frame = noFrame; connection = openOn a (channelDue c m .channel) }
+      → dueOf (openOn a c) m ≡ handNothing (passedOn (channelDue c m .answer)) (openOn a (channelDue c m .channel))
   unfolding dueOf openDue
   due-none e = rw e
 
@@ -224,7 +222,7 @@ sent-goes-on limit c n = go (offered limit (c .sender) n .note)
 
 -- ---- a closed record: nothing changes
 
-pub arrived-closed : (limit id : ℕ) (s : List ℕ) (room : ℕ) → arrived limit closedRecord id s room ≡ notDue closedRecord
+pub arrived-closed : (limit id : ℕ) (s : List ℕ) (room : ℕ) → arrived limit closedRecord id s room ≡ gives AnswerNotDue closedRecord
 unfolding arrived
 arrived-closed limit id s room = refl
 
@@ -232,10 +230,10 @@ pub buffered-closed : (limit id : ℕ) (s b : List ℕ) → buffered limit close
 unfolding buffered
 buffered-closed limit id s b = refl
 
-pub elapsed-closed : (n : ℕ) → elapsed closedRecord n ≡ record { answer = AnswerGood; connection = closedRecord }
+pub elapsed-closed : (n : ℕ) → elapsed closedRecord n ≡ gives AnswerGood closedRecord
 unfolding elapsed
 elapsed-closed n = refl
 
-pub due-closed : (m : List ℕ) → dueOf closedRecord m ≡ nothingDue closedRecord
+pub due-closed : (m : List ℕ) → dueOf closedRecord m ≡ handNothing AnswerGood closedRecord
 unfolding dueOf closedDue
 due-closed m = refl

@@ -14,7 +14,7 @@ use Rattle.receiver.specs.declared.Taking.{Taking}
 use Rattle.receiver.specs.declared.Taking.the-variants.{Shown, NoneComplete, ShortBuffer}
 use Rattle.channel.specs.declared.Channel.{Channel}
 use Rattle.channel.specs.declared.Answer.{Answer}
-use Rattle.channel.specs.Numbers.{numberOf, closes}
+use Rattle.channel.specs.Numbers.{said as channelSaid, closes}
 use Rattle.channel.specs.Opened.{withReceiver, testDue, arrived as channelArrived, elapsed as channelElapsed, due as channelDue, sent as channelSent}
 use Rattle.connection.specs.declared.Connection.{Connection}
 use Rattle.connection.specs.Numbers.{said}
@@ -86,7 +86,7 @@ module _ (limit : ℕ) (a b : Connection) (ids : Crossing a b) where
     send-lifts m false = refl
     send-lifts m true =
         let r = channelSent limit nc (length m) in
-        rw (said-passed (r .answer) .0, sent-goes-on limit nc (length m)) (lifted-if (eqb (numberOf (r .answer)) 0) _ _)
+        rw (said-passed (r .answer) .0, sent-goes-on limit nc (length m)) (lifted-if (eqb (channelSaid (r .answer) .number) 0) _ _)
 
     take-near-lifts : (live : Bool) → Lifts (sys live) (takes near)
     unfolding taking takenBy systemTaking
@@ -212,7 +212,7 @@ module _ (limit : ℕ) (s : System) (w : Sides s) (q : testDue (s .near .channel
       go (send m) =
           let r = channelSent limit (s .near .channel) (length m) in
           let e = sent-goes-on limit (s .near .channel) (length m) in
-          by P (s .near .live) (λ _. by P (eqb (numberOf (r .answer)) 0) (λ _. goes-on (r .answer) (r .channel) e) λ _. goes-on (r .answer) (r .channel) e) λ _ _. q
+          by P (s .near .live) (λ _. by P (eqb (channelSaid (r .answer) .number) 0) (λ _. goes-on (r .answer) (r .channel) e) λ _. goes-on (r .answer) (r .channel) e) λ _ _. q
       go (takes near) = by P (s .near .live) (λ l f. absurd (false≢true (sym f ∙ l))) λ _ _. q
       go (takes far) = by P (s .far .live) (λ _ _. q) λ _ _. q
       go (time near n) = by P (s .near .live) (λ _. settles (elapsed-settles (s .near .channel) n)) λ _ _. q

@@ -2,25 +2,25 @@
 use Prim.Native.Nat.{ℕ, _+_, min, _≤_, _<_, _%_, _/_}
 use native.Mathlib.Nat.{one-le-mul, one-le-pow}
 use native.Mathlib.Omega.{arith}
-use mathlib.Core.Bool.{true, not}
+use mathlib.Core.Bool.{true, false, not}
 use mathlib.Core.List.{List, [], _∷_}
 use mathlib.Core.Path.{_≡_, refl, ap}
-use lib.Dec.{eqb, leb}
+use lib.Dec.{eqb, ltb, leb}
 use lib.ListN.{length, replicate}
-use borrow.Author.Tests.{leb-true, eqb-false, not-true, eq-eqb, ne-eqb, le-ltb}
-use Rattle.laws.proofs.Cases.{both}
+use borrow.Author.Tests.{leb-true, ltb-false, eqb-false, not-true, eq-eqb, ne-eqb, le-ltb}
+use Rattle.laws.proofs.Cases.{both, or-first, or-second}
 use Rattle.telegram.specs.Time.{tenthsOf}
 use Rattle.telegram.specs.Outgoing.{sent}
 use Rattle.telegram.specs.Opening.{requestOf, replyOf}
-use Rattle.telegram.specs.Kinds.{setupOf, acceptOf}
+use Rattle.telegram.specs.Kinds.{badBlock, setupOf, acceptOf}
 use Rattle.telegram.specs.declared.kinds.Parameters.{Parameters as Fields}
 use Rattle.telegram.proofs.RoundTrip.{positive-read, accept-sorted}
 use Rattle.settings.specs.Settings.{allowed}
 use Rattle.settings.specs.declared.Settings.{Settings}
 use Rattle.connection.specs.declared.Connection.{Connection}
 use Rattle.connection.specs.declared.Answer.the-variants.{Good}
-use Rattle.connection.specs.Record.{requestId, closedRecord, withAttempt, requesting, agreeing, ownFields, opened}
-use Rattle.connection.specs.Calls.{opening, onReply, onAccept, onAgreeing, arrived, attemptOut, requestDue, dueOf}
+use Rattle.connection.specs.Record.{listensOn, requestId, closedRecord, withAttempt, requesting, agreeing, ownFields, opened}
+use Rattle.connection.specs.Calls.{gives, handOver, opening, onReply, onAccept, onAgreeing, arrived, attemptOut, requestDue, dueOf}
 use Rattle.delivery.specs.System.{Try}
 use Rattle.connection_delivery.specs.Claim.{FreshPair}
 use Rattle.connection_delivery.specs.Opening.{exchange, openedPair}
@@ -42,18 +42,18 @@ eleven-bits : (id : ℕ) → leb id 0x7FF ≡ true → id < 2048
 eleven-bits id e = omega (arith, leb-true id 0x7FF e)
 
 allowed-parts : (s : Settings) → allowed s ≡ true → Allowed s
-unfolding allowed
+unfolding allowed badBlock
 allowed-parts s e =
     let to-pause = both _ _ e in
     let to-reply = both _ _ (to-pause .0) in
     let to-t1 = both _ _ (both _ _ (to-reply .0) .0) in
-    let to-most = both _ _ (to-t1 .0) in
-    let to-least = both _ _ (to-most .0) in
-    let to-unit = both _ _ (to-least .0) in
+    let to-block = both _ _ (to-t1 .0) in
+    let to-unit = both _ _ (to-block .0) in
+    let block : badBlock (s .block) ≡ false = not-true (badBlock (s .block)) (to-block .1) in
     record {
       receive = eleven-bits (s .receive) (to-unit .0);
-      least = leb-true 1 (s .block) (to-least .1);
-      most = leb-true (s .block) 15 (to-most .1);
+      least = omega (arith, eqb-false (s .block) 0 (or-first (eqb (s .block) 0) (ltb 15 (s .block)) block));
+      most = ltb-false 15 (s .block) (or-second (eqb (s .block) 0) (ltb 15 (s .block)) block);
       t1 = tenths-some (s .t1) (to-t1 .1);
       pause = leb-true 1 (s .pause) (to-pause .1);
     }
@@ -65,28 +65,28 @@ abbrev asked : Connection → Connection
 asked c = withAttempt c (attemptOut c)
 
 module _ (limit : ℕ) (s : Settings) (a : allowed s ≡ true) (transmit : ℕ) (h : transmit < 2048) (f : Fields) (least : 1 ≤ f .block) (most : f .block ≤ 15) (room : ℕ) where
-  is-opened : opening closedRecord s ≡ record { answer = Good; connection = requesting s }
+  is-opened : opening closedRecord s ≡ gives Good (requesting s)
   unfolding opening
   is-opened = rw a
 
   hands-c0 : dueOf (requesting s) []
-      ≡ record { answer = Good; given = true; frame = record { id = requestId; payload = requestOf (s .unit) (s .receive) }; connection = asked (requesting s) }
+      ≡ handOver Good (record { id = requestId; payload = requestOf (s .unit) (s .receive) }) (asked (requesting s))
   unfolding dueOf requestDue
   hands-c0 = refl
 
   d0-arrives : arrived limit (asked (requesting s)) (requestId + s .unit) (sent (replyOf 0xD0 (s .receive) transmit)) room
-      ≡ record { answer = Good; connection = agreeing (requesting s) transmit }
-  unfolding arrived onReply
+      ≡ gives Good (agreeing (requesting s) transmit)
+  unfolding listensOn arrived onReply
   d0-arrives = rw (eq-eqb (requestId + s .unit) _ refl, positive-read (s .receive) transmit (allowed-parts s a .receive) h)
 
   hands-a0 : dueOf (agreeing (requesting s) transmit) []
-      ≡ record { answer = Good; given = true; frame = record { id = transmit; payload = setupOf (ownFields s) }; connection = asked (agreeing (requesting s) transmit) }
+      ≡ handOver Good (record { id = transmit; payload = setupOf (ownFields s) }) (asked (agreeing (requesting s) transmit))
   unfolding dueOf requestDue
   hands-a0 = refl
 
   a1-arrives : arrived limit (asked (agreeing (requesting s) transmit)) (s .receive) (sent (acceptOf f)) room
-      ≡ record { answer = Good; connection = opened (agreeing (requesting s) transmit) f }
-  unfolding arrived onAgreeing onAccept
+      ≡ gives Good (opened (agreeing (requesting s) transmit) f)
+  unfolding listensOn arrived onAgreeing onAccept badBlock
   a1-arrives =
       rw (eq-eqb (s .receive) _ refl, ap (λ x. x .kind) (accept-sorted f), ne-eqb (f .block) 0 (omega (arith, least)), le-ltb 15 (f .block) most)
 

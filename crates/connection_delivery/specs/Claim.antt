@@ -39,6 +39,7 @@ WholeOrNever limit p =
     (cs : List Call) → Always limit NoTest p cs →
     (length (run limit p cs .history .handedOut) ≤ p .history .done) ⊎ (run limit p cs .history .handedOut ≡ p .history .accepted)
 
+-- the first half: what holds after every list of calls
 pub record Delivered (limit : ℕ) (p : Pair) : Type 0 where
   -- "the messages handed out are the first so many accepted, in order, once, byte for byte"
   pub inOrder : p .history .handedOut ≡ take (length (p .history .handedOut)) (p .history .accepted)
@@ -51,6 +52,7 @@ pub record Delivered (limit : ℕ) (p : Pair) : Type 0 where
   -- the receiving end stays open
   pub open′ : isOpen (p .far .connection) ≡ true
 
+-- demand 3, one claim about the whole list
 pub record Demand3 (limit : ℕ) (p : Pair) (cs : List Call) : Type 0 where
   pub first : Always limit NoTest p cs → Roomy (view p) (view (run limit p cs)) → Delivered limit (run limit p cs)
   pub second :
@@ -58,6 +60,11 @@ pub record Demand3 (limit : ℕ) (p : Pair) (cs : List Call) : Type 0 where
       Along limit InTime p cs → Along limit TakenFirst p cs → AtRest (view (run limit p cs)) →
       FewLosses (p .near .connection .channel .parameters .terms .repeats) (run limit p cs .history .losses) →
       AllDone (p .near .connection .channel .parameters .terms .repeats) (run limit p cs .history)
+  -- with so few losses 8 is never answered, at rest or not
+  pub stays :
+      Always limit NoTest p cs → Along limit InTime p cs → Along limit TakenFirst p cs →
+      FewLosses (p .near .connection .channel .parameters .terms .repeats) (run limit p cs .history .losses) →
+      isOpen (run limit p cs .near .connection) ≡ true
 
 -- for every list of calls on two fresh connections
 abbrev pub Demand3Holds : Type 0

@@ -37,7 +37,7 @@ exchange limit s transmit fields room =
     let a0 = dueOf (d0 .connection) [] in
     let a1 = arrived limit (a0 .connection) (s .receive) (sent (acceptOf fields)) room in
     record {
-      answers = o .answer ∷ c0 .answer ∷ d0 .answer ∷ a0 .answer ∷ a1 .answer ∷ [];
+      answers = o .told .answer ∷ c0 .told .answer ∷ d0 .told .answer ∷ a0 .told .answer ∷ a1 .told .answer ∷ [];
       frames = handedOver c0 ++ handedOver a0;
       connection = a1 .connection;
     })

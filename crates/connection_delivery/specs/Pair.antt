@@ -1,7 +1,6 @@
 -- 01, "The lists of demand 3", for two connection records: the calls of `connection` on two ends and the links between them, by CAN ID.
 -- History, tries, sides, fates and calls are those of `delivery`; they stand beside the records and influence no call.
 use Prim.Native.Nat.{ℕ, _+_}
-use mathlib.Core.Bool.{_||_}
 use mathlib.Core.List.{List, [], _∷_, _++_, map}
 use lib.ListN.{length, take}
 use lib.Dec.{eqb}
@@ -9,11 +8,9 @@ use Rattle.laws.specs.If.{if_then_else_}
 use Rattle.telegram.specs.Outgoing.{sent}
 use Rattle.telegram.specs.Kinds.{sorted}
 use Rattle.connection.specs.declared.Connection.{Connection}
-use Rattle.connection.specs.declared.Answer.{Answer}
-use Rattle.connection.specs.Numbers.{said}
 use Rattle.connection.specs.Record.{isOpen}
 use Rattle.connection.specs.Calls.{arrived, buffered, elapsed, dueOf, sentBy, takenBy}
-use Rattle.delivery.specs.System.{System, End, Try, Flying, History, Side, Fate, Call, other, lent, accepting, handing, asked, tryOf, counted, losing}
+use Rattle.delivery.specs.System.{System, End, Try, Flying, History, Side, Fate, Call, other, lent, accepting, handing, noted, asked, tryOf, counted, losing}
 use Rattle.delivery.specs.System.Side.{near, far}
 use Rattle.delivery.specs.System.Fate.{goes, stays, lost}
 use Rattle.delivery.specs.System.Call.{send, take as takes, time, due, arrive}
@@ -29,6 +26,7 @@ pub record Frame : Type 0 where
   pub bytes : List ℕ
   pub try : Try
 
+-- the sending end and the receiving end, the frames on their way to the far and to the near one, the first to arrive first, and the history
 pub record Pair : Type 0 where
   pub near : Party
   pub far : Party
@@ -38,39 +36,29 @@ pub record Pair : Type 0 where
 
 -- ---- parts of a pair
 
+-- the end on a side
 abbrev pub partyOf : Side → Pair → Party
 partyOf near p = p .near
 partyOf far p = p .far
 
+-- a pair with another end on a side
 abbrev pub withParty : Side → Pair → Party → Pair
 withParty near p e = record { near = e; far = p .far; forward = p .forward; backward = p .backward; history = p .history }
 withParty far p e = record { near = p .near; far = e; forward = p .forward; backward = p .backward; history = p .history }
 
+-- the frames on their way to a side
 abbrev pub linkTo : Side → Pair → List Frame
 linkTo near p = p .backward
 linkTo far p = p .forward
 
+-- a pair with other frames on their way to a side
 abbrev pub withLinkTo : Side → Pair → List Frame → Pair
 withLinkTo near p l = record { near = p .near; far = p .far; forward = p .forward; backward = l; history = p .history }
 withLinkTo far p l = record { near = p .near; far = p .far; forward = l; backward = p .backward; history = p .history }
 
+-- a pair with another history
 abbrev pub withHistory : Pair → History → Pair
 withHistory p h = record { near = p .near; far = p .far; forward = p .forward; backward = p .backward; history = h }
-
--- the sending end's answer: done, or 8
-abbrev pub told : Side → History → Answer → History
-told near h a =
-    record {
-      accepted = h .accepted;
-      handedOut = h .handedOut;
-      done = if said a .done then h .done + 1 else h .done;
-      lost = h .lost || eqb (said a .number) 8;
-      frames = h .frames;
-      turns = h .turns;
-      ackTry = h .ackTry;
-      losses = h .losses;
-    }
-told far h a = h
 
 -- ---- the calls
 
@@ -79,7 +67,7 @@ unfoldable pub sending : (limit : ℕ) → Pair → List ℕ → Pair
 sending limit p m =
     (let r = sentBy limit (p .near .connection) (length m) in
     let q = withParty near p (record { connection = r .connection; buffer = p .near .buffer }) in
-    if eqb (said (r .answer) .number) 0 then withHistory q (accepting (p .history) m) else q)
+    if eqb (r .told .said .number) 0 then withHistory q (accepting (p .history) m) else q)
 
 -- take: what is shown is the first part of the lent buffer
 unfoldable pub taking : Side → Pair → Pair
@@ -87,14 +75,14 @@ taking side p =
     (let e = partyOf side p in
     let t = takenBy (e .connection) (length (e .buffer)) in
     let q = withParty side p (record { connection = t .connection; buffer = e .buffer }) in
-    if eqb (said (t .answer) .number) 0 then withHistory q (handing (p .history) (take (t .len) (e .buffer) ∷ [])) else q)
+    if eqb (t .told .said .number) 0 then withHistory q (handing (p .history) (take (t .len) (e .buffer) ∷ [])) else q)
 
 -- time has passed
 unfoldable pub timing : Side → Pair → ℕ → Pair
 timing side p n =
     (let e = partyOf side p in
     let r = elapsed (e .connection) n in
-    withHistory (withParty side p (record { connection = r .connection; buffer = e .buffer })) (told side (p .history) (r .answer)))
+    withHistory (withParty side p (record { connection = r .connection; buffer = e .buffer })) (noted side (p .history) (r .told .said .done) (eqb (r .told .said .number) 8)))
 
 -- what is due: a frame handed over goes last into the link to the other end
 unfoldable pub asking : Side → Pair → Pair
@@ -117,7 +105,7 @@ arriving limit side p f =
     let r = arrived limit (e .connection) (f .id) (f .bytes) (length (e .buffer)) in
     let b = buffered limit (e .connection) (f .id) (f .bytes) (e .buffer) in
     withHistory (withParty side p (record { connection = r .connection; buffer = b }))
-    (asked side (told side (p .history) (r .answer)) (sorted (f .bytes) .kind) (f .try)))
+    (asked side (noted side (p .history) (r .told .said .done) (eqb (r .told .said .number) 8)) (sorted (f .bytes) .kind) (f .try)))
 
 -- the first frame of a link, by its fate
 abbrev pub meeting : (limit : ℕ) → Side → Fate → List Frame → Pair → Pair
@@ -141,9 +129,11 @@ run limit p (c ∷ cs) = run limit (step limit p c) cs
 
 -- ---- the channels of a pair
 
+-- an end as its channel stands there: live while the record is open
 abbrev pub endOf : Party → End
 endOf e = record { channel = e .connection .channel; buffer = e .buffer; live = isOpen (e .connection) }
 
+-- a frame without its ID
 abbrev pub flying : Frame → Flying
 flying f = record { bytes = f .bytes; try = f .try }
 

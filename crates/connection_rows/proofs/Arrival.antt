@@ -8,7 +8,7 @@ use lib.Seq.{getD-drop}
 use lib.Dec.{ltb, leb, eqb}
 use Rattle.laws.specs.If.{if_then_else_}
 use Rattle.laws.proofs.Cases.{by, by-not, Makes, either}
-use Rattle.telegram.specs.Kinds.{fields, sorted}
+use Rattle.telegram.specs.Kinds.{badBlock, fields, sorted}
 use Rattle.telegram.specs.Opening.{replyRead}
 use Rattle.telegram.specs.Cutting.{declaredOf, framesOf}
 use Rattle.telegram.specs.declared.opening.Reply.{Reply}
@@ -20,10 +20,11 @@ use Rattle.receiver.specs.declared.Message.{Message}
 use Rattle.receiver.specs.declared.Received.{Received}
 use Rattle.receiver.specs.Receiving.{waiting, first, used, completed, copied, filled, onFirst, onLater, onData as onReceiverData, received, settled as left, buffered as written}
 use Rattle.channel.specs.Opened.{withSender, withReceiver, restarted, dataAnswer, ackAnswer, answered, onData, onAck, onAccept as onTestAccept, arrived as channelArrived, bufferedBy}
-use Rattle.channel.specs.declared.Arrived.{Arrived as ChannelArrived}
+use Rattle.channel.specs.declared.Answered.{Answered as ChannelAnswered}
 use Rattle.connection.specs.declared.Connection.{Connection}
-use Rattle.connection.specs.declared.Arrived.{Arrived}
-use Rattle.connection.specs.Numbers.{Said, plain, said, passedOn}
+use Rattle.connection.specs.declared.Answered.{Answered}
+use Rattle.connection.specs.declared.Said.{Said}
+use Rattle.connection.specs.Numbers.{plain, said, passedOn}
 use Rattle.connection.specs.Record.{isClosed, isRequesting, isAgreeing, withChannel}
 use Rattle.connection.specs.Calls.{arrived, buffered, onReply, onAccept, onAgreeing, onOpen, settled}
 use Rattle.connection_rows.specs.Tables.{row, always, _orElse_, toldBy}
@@ -37,10 +38,10 @@ module _ (limit : ℕ) (c : Connection) (id : ℕ) (s b : List ℕ) where
   told = toldBy (arrivalTable limit c id s b)
 
   -- what is said and left by an arrival with the buffer w then, by the channel's, and by what the halves make of data and of an Ack
-  abbrev tells : List ℕ → Arrived → Said × (Connection × List ℕ)
-  tells w r = (said (r .answer), (r .connection, w))
+  abbrev tells : List ℕ → Answered → Said × (Connection × List ℕ)
+  tells w r = (r .told .said, (r .connection, w))
 
-  abbrev passes : List ℕ → ChannelArrived → Said × (Connection × List ℕ)
+  abbrev passes : List ℕ → ChannelAnswered → Said × (Connection × List ℕ)
   passes w r = (said (passedOn (r .answer)), (settled c (r .answer) (r .channel), w))
 
   abbrev receives : Received → Said × (Connection × List ℕ)
@@ -98,7 +99,7 @@ module _ (limit : ℕ) (c : Connection) (id : ℕ) (s b : List ℕ) where
 
     -- while the A1 is awaited
     agreeing-told : isRequesting c ≡ false → isAgreeing c ≡ true → Makes (tells (buffered limit c id s b)) told (onAgreeing c (sorted s .kind))
-    unfolding buffered onAgreeing onAccept
+    unfolding buffered onAgreeing onAccept badBlock
     agreeing-told req agr =
         rw (closed, same, req, agr)
         (by-kind s (Makes (agrees _) _)
@@ -110,8 +111,7 @@ module _ (limit : ℕ) (c : Connection) (id : ℕ) (s b : List ℕ) where
         (λ k. rw (telegram k, k .accept, k .disconnect))
         (λ k. rw (telegram k, k .accept, k .disconnect, k .setup)
         (by-not (Makes (tells _) _) (c .attempt .asked) (λ e. rw e) (λ e. rw e
-        (by (Makes (tells _) _) (eqb (fields s .block) 0) (λ z. rw z) (λ z. rw z
-        (by (Makes (tells _) _) (ltb 15 (fields s .block)) (λ o. rw o) (λ o. rw o)))))))
+        (by (Makes (tells _) _) (badBlock (fields s .block)) (λ z. rw z) (λ z. rw z)))))
         (λ k. rw (telegram k)))
 
     module _ (req : isRequesting c ≡ false) (agr : isAgreeing c ≡ false) where
@@ -150,12 +150,11 @@ module _ (limit : ℕ) (c : Connection) (id : ℕ) (s b : List ℕ) where
 
       -- an A1, in answer to a test
       accept-told : Only s 6 → Makes opens told (Accept (fields s))
-      unfolding channelArrived onTestAccept answered settled received written
+      unfolding channelArrived onTestAccept answered settled received written badBlock
       accept-told k =
           rw (closed, same, req, agr, telegram k, k .data′, k .ack, k .test, k .break, k .accept, k .disconnect, k .setup)
           (by-not (Makes (passes _) _) (c .channel .tests .out) (λ e. rw e) (λ e. rw e
-          (by (Makes (passes _) _) (eqb (fields s .block) 0) (λ z. rw z) (λ z. rw z
-          (by (Makes (passes _) _) (ltb 15 (fields s .block)) (λ o. rw o) (λ o. rw o))))))
+          (by (Makes (passes _) _) (badBlock (fields s .block)) (λ z. rw z) (λ z. rw z))))
 
       -- on an open connection
       open-told : Makes (tells (buffered limit c id s b)) told (onOpen limit c s (length b))

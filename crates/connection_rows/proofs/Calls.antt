@@ -1,10 +1,11 @@
 -- The calls beside an arrival: each says and leaves what its table tells.
 use Prim.Native.Nat.{ℕ, _+_}
-use mathlib.Core.Bool.{Bool, true, false, not, _&&_, _||_}
+use mathlib.Core.Bool.{Bool, true, false, not, _&&_, _||_, true≢false}
 use mathlib.Core.List.{List}
 use mathlib.Core.Path.{_≡_, refl, sym}
 use lib.ListN.{length}
 use lib.Dec.{ltb, leb, eqb}
+use borrow.Author.Tests.{not-true, not-false}
 use Rattle.laws.specs.If.{if_then_else_}
 use Rattle.laws.proofs.Cases.{by, by-not, Makes, each}
 use Rattle.settings.specs.Settings.{allowed}
@@ -19,37 +20,33 @@ use Rattle.receiver.specs.Receiving.{waiting, took}
 use Rattle.receiver.specs.declared.Took.{Took}
 use Rattle.channel.specs.Opened.{withSender, withReceiver, offerAnswer, repeatsUsedUp as isLost, waitEnds, testDue, handAccept, handTest, handAck, handBy, handData, sent, elapsed as channelElapsed, due as channelDue}
 use Rattle.channel.specs.declared.Due.{Due as ChannelDue}
-use Rattle.channel.specs.declared.Elapsed.{Elapsed as ChannelElapsed}
+use Rattle.channel.specs.declared.Answered.{Answered as ChannelAnswered}
 use Rattle.connection.specs.declared.Connection.{Connection}
 use Rattle.connection.specs.declared.Frame.{Frame}
-use Rattle.connection.specs.declared.Opened.{Opened}
-use Rattle.connection.specs.declared.Elapsed.{Elapsed}
+use Rattle.connection.specs.declared.Answered.{Answered}
 use Rattle.connection.specs.declared.Due.{Due}
-use Rattle.connection.specs.declared.Sent.{Sent}
 use Rattle.connection.specs.declared.TakeStep.{TakeStep}
-use Rattle.connection.specs.declared.Closed.{Closed}
-use Rattle.connection.specs.Numbers.{Said, said, passedOn}
+use Rattle.connection.specs.declared.Said.{Said}
+use Rattle.connection.specs.Numbers.{said, passedOn}
 use Rattle.connection.specs.Record.{isClosed, isRequesting, isAgreeing, isOpen, withChannel}
-use Rattle.connection.specs.Calls.{opening, settled, attemptElapsed, elapsed, noFrame, closedDue, requestDue, openDue, dueOf, sentBy, takeAnswer, lengthShown, takenBy, closed}
+use Rattle.connection.specs.Calls.{opening, settled, attemptElapsed, elapsed, handOver, handNothing, closedDue, requestDue, openDue, dueOf, sentBy, takeAnswer, lengthShown, takenBy, closed}
 use Rattle.connection_rows.specs.Tables.{toldBy}
-use Rattle.connection_rows.specs.Rows.{runsOut, openTable, openSays, timeTable, timeSays, dueTable, dueSays, sendTable, sendSays, takeTable, takeSays, closeTable, closeSays}
+use Rattle.connection_rows.specs.Rows.{runsOut, sendingLater, openTable, openSays, timeTable, timeSays, dueTable, dueSays, sendTable, sendSays, takeTable, takeSays, closeTable, closeSays}
 use Rattle.connection_rows.proofs.Tests.{exceeds, not-below, running, stopped, other-phase}
 
--- ---- open
+-- what a call says and leaves
+abbrev tells : Answered → Said × Connection
+tells r = (r .told .said, r .connection)
 
-abbrev opens : Opened → Said × Connection
-opens r = (said (r .answer), r .connection)
+-- ---- open
 
 pub open-told : (c : Connection) (s : Settings) → openSays c s ≡ toldBy (openTable c s)
 unfolding opening
 open-told c s =
-    by-not (Makes opens _) (isClosed c) (λ e. rw e) (λ e. rw e
-    (by-not (Makes opens _) (allowed s) (λ e. rw e) (λ e. rw e)))
+    by-not (Makes tells _) (isClosed c) (λ e. rw e) (λ e. rw e
+    (by-not (Makes tells _) (allowed s) (λ e. rw e) (λ e. rw e)))
 
 -- ---- time passes
-
-abbrev elapses : Elapsed → Said × Connection
-elapses r = (said (r .answer), r .connection)
 
 -- the wait for an Ack ran out once too often
 lost : (t : Terms) (s : Sender) (n : ℕ) → isLost (passed t s n .note) ≡ (runsOut (s .wait) n && ltb (t .repeats) (s .count + 1))
@@ -63,21 +60,33 @@ lost t s n =
     over : Passed → Bool
     over p = isLost (p .note)
 
+-- where it did not, the sending half is as the rows say
+abbrev Goes : Type 0 → Sender → Passed → Type 0
+Goes a s p = a → p .sender ≡ s
+
+goes : (t : Terms) (s : Sender) (n : ℕ) → (runsOut (s .wait) n && ltb (t .repeats) (s .count + 1)) ≡ false → passed t s n .sender ≡ sendingLater s n
+unfolding passed
+goes t s n =
+    rw (running, sym (not-below n (s .wait)), exceeds)
+    (by (Goes _ _) (eqb (s .wait) 0) (λ e. rw e (λ _. refl)) (λ e. rw e
+    (by (Goes _ _) (ltb n (s .wait)) (λ e. rw e (λ _. refl)) (λ e. rw e
+    (by (Goes _ _) (leb (t .repeats) (s .count)) (λ u. rw u (λ f. absurd (true≢false f))) (λ u. rw u (λ _. refl)))))))
+
 module _ (c : Connection) (n : ℕ) where
-  abbrev passes : ChannelElapsed → Said × Connection
+  abbrev passes : ChannelAnswered → Said × Connection
   passes r = (said (passedOn (r .answer)), settled c (r .answer) (r .channel))
 
   pub time-told : timeSays c n ≡ toldBy (timeTable c n)
   unfolding elapsed attemptElapsed channelElapsed waitEnds settled
   time-told =
-      by (Makes elapses _) (isClosed c) (λ e. rw (e, other-phase (c .phase) 0 1 e refl, other-phase (c .phase) 0 2 e refl)) (λ e. rw e
-      (by (Makes elapses _) (isRequesting c || isAgreeing c)
-      (λ o. rw (o, running, sym (not-below n (c .attempt .wait)), not-below (c .attempt .repeats))
-      (by (Makes elapses _) (eqb (c .attempt .wait) 0) (λ e. rw (e, stopped (c .attempt .wait) n e)) (λ e. rw e
-      (by (Makes elapses _) (ltb n (c .attempt .wait)) (λ e. rw e) (λ e. rw e
-      (by (Makes elapses _) (leb (c .settings .requests) (c .attempt .repeats)) (λ u. rw u) (λ u. rw u)))))))
-      (λ o. rw (o, lost, exceeds (c .channel .parameters .allowed) (c .channel .tests .unanswered), running (c .channel .tests .wait))
-      (by (Makes passes _) (runsOut (c .channel .sender .wait) n && ltb (c .channel .parameters .terms .repeats) (c .channel .sender .count + 1)) (λ u. rw u) (λ u. rw u
+      by (Makes tells _) (isClosed c) (λ e. rw (e, other-phase (c .phase) 0 1 e refl, other-phase (c .phase) 0 2 e refl)) (λ e. rw e
+      (by-not (Makes tells _) (not (isRequesting c || isAgreeing c))
+      (λ o. rw (not-false (isRequesting c || isAgreeing c) o, running, sym (not-below n (c .attempt .wait)), not-below (c .attempt .repeats))
+      (by (Makes tells _) (eqb (c .attempt .wait) 0) (λ e. rw (e, stopped (c .attempt .wait) n e)) (λ e. rw e
+      (by (Makes tells _) (ltb n (c .attempt .wait)) (λ e. rw e) (λ e. rw e
+      (by (Makes tells _) (leb (c .settings .requests) (c .attempt .repeats)) (λ u. rw u) (λ u. rw u)))))))
+      (λ o. rw (not-true (isRequesting c || isAgreeing c) o, lost, exceeds (c .channel .parameters .allowed) (c .channel .tests .unanswered), running (c .channel .tests .wait))
+      (by (Makes passes _) (runsOut (c .channel .sender .wait) n && ltb (c .channel .parameters .terms .repeats) (c .channel .sender .count + 1)) (λ u. rw u) (λ u. rw (u, goes (c .channel .parameters .terms) (c .channel .sender) n u)
       (by-not (Makes passes _) (not (eqb (c .channel .tests .wait) 0) && leb (c .channel .tests .wait) n) (λ w. rw w) (λ w. rw w
       (by (Makes passes _) (leb (c .channel .parameters .allowed) (c .channel .tests .unanswered)) (λ v. rw v) (λ v. rw v)))))))))
 
@@ -85,14 +94,14 @@ module _ (c : Connection) (n : ℕ) where
 
 module _ (c : Connection) (m : List ℕ) where
   abbrev hands-over : Due → Said × (Bool × Frame × Connection)
-  hands-over d = (said (d .answer), (d .given, d .frame, d .connection))
+  hands-over d = (d .told .said, (d .given, d .frame, d .connection))
 
   -- by what the channel hands over, and by what its sending half does
   abbrev hands-on : ChannelDue → Said × (Bool × Frame × Connection)
   hands-on d =
       hands-over
-      (if not (d .given) then record { answer = passedOn (d .answer); given = false; frame = noFrame; connection = withChannel c (d .channel) }
-      else record { answer = passedOn (d .answer); given = true; frame = record { id = c .transmit; payload = d .payload }; connection = withChannel c (d .channel) })
+      (if not (d .given) then handNothing (passedOn (d .answer)) (withChannel c (d .channel))
+      else handOver (passedOn (d .answer)) (record { id = c .transmit; payload = d .payload }) (withChannel c (d .channel)))
 
   abbrev hands-data : Handed → Said × (Bool × Frame × Connection)
   hands-data h = hands-on (handBy (c .channel) h (h .note))
@@ -113,13 +122,10 @@ module _ (c : Connection) (m : List ℕ) where
 
 -- ---- send, take and close
 
-abbrev sends : Sent → Said × Connection
-sends r = (said (r .answer), r .connection)
-
 pub send-told : (limit : ℕ) (c : Connection) (n : ℕ) → sendSays limit c n ≡ toldBy (sendTable limit c n)
 unfolding sentBy sent offered
 send-told limit c n =
-    by-not (Makes sends _) (isOpen c) (λ e. rw e) (λ e. rw e
+    by-not (Makes tells _) (isOpen c) (λ e. rw e) (λ e. rw e
     (by-not (Makes offers _) (eqb (c .channel .sender .length) 0) (λ e. rw e) (λ e. rw e
     (by (Makes offers _) (eqb n 0) (λ e. rw e) (λ e. rw e
     (by (Makes offers _) (ltb limit n) (λ e. rw e) (λ e. rw e)))))))
@@ -128,7 +134,7 @@ send-told limit c n =
     offers o = (said (passedOn (offerAnswer (o .note))), withChannel c (withSender (c .channel) (o .sender)))
 
 abbrev takes : TakeStep → Said × (ℕ × Connection)
-takes r = (said (r .answer), (r .len, r .connection))
+takes r = (r .told .said, (r .len, r .connection))
 
 pub take-told : (c : Connection) (room : ℕ) → takeSays c room ≡ toldBy (takeTable c room)
 unfolding takenBy took
@@ -140,11 +146,8 @@ take-told c room =
     shows : Took → Said × (ℕ × Connection)
     shows t = (said (takeAnswer (t .note)), (lengthShown (t .note) (c .channel .receiver .complete .length), withChannel c (withReceiver (c .channel) (t .receiver))))
 
-abbrev closes : Closed → Said × Connection
-closes r = (said (r .answer), r .connection)
-
 pub close-told : (c : Connection) → closeSays c ≡ toldBy (closeTable c)
 unfolding closed
 close-told c =
-    by (Makes closes _) (isClosed c) (λ e. rw e) (λ e. rw e
-    (by (Makes closes _) (isRequesting c) (λ e. rw e) (λ e. rw e)))
+    by (Makes tells _) (isClosed c) (λ e. rw e) (λ e. rw e
+    (by (Makes tells _) (isRequesting c) (λ e. rw e) (λ e. rw e)))

@@ -17,7 +17,8 @@ use Rattle.sender.specs.Sending.{accepted}
 use Rattle.receiver.specs.Receiving.{waiting, settled}
 use Rattle.channel.specs.Opened.{withSender, withReceiver}
 use Rattle.connection.specs.declared.Connection.{Connection}
-use Rattle.connection.specs.Numbers.{Said, plain}
+use Rattle.connection.specs.declared.Said.{Said}
+use Rattle.connection.specs.Numbers.{plain}
 use Rattle.connection.specs.Record.{isClosed, isRequesting, isAgreeing, closedRecord, leavingOn, requesting, withChannel}
 use Rattle.connection.specs.Calls.{closedDue, dueOf}
 use Rattle.connection_rows.specs.Tables.{toldBy, Given, Says}
@@ -35,6 +36,10 @@ module _ (limit : ℕ) (c : Connection) (id : ℕ) (s b : List ℕ) where
 
   arrive : (n : ℕ) {x : Connection × List ℕ} → Leaving n x (arrivalTable limit c id s b) → Arrives n x
   arrive = says _ (arrive-told limit c id s b)
+
+  -- every number, those too that an arrival never gives
+  pub arrive-row : (n : ℕ) → (arriveSays limit c id s b .0 .number ≡ n) ↔ Given n (arriveSays limit c id s b .1) (arrivalTable limit c id s b)
+  arrive-row = given (arrivalTable limit c id s b) (arrive-told limit c id s b)
 
   pub arrive-row-0 : Arrives 0 (recordAfter c s, bufferAfter c s b)
   arrive-row-0 = arrive 0 refl
@@ -131,6 +136,9 @@ asked-not-ready c s w a =
 -- ---- open
 
 module _ (c : Connection) (s : Settings) where
+  pub open-row : (n : ℕ) → (openSays c s .0 .number ≡ n) ↔ Given n (openSays c s .1) (openTable c s)
+  open-row = given (openTable c s) (open-told c s)
+
   pub open-row-0 : Says 0 (requesting s) (openSays c s) (openTable c s)
   open-row-0 = says _ (open-told c s) 0 refl
 
@@ -143,6 +151,9 @@ module _ (c : Connection) (s : Settings) where
 -- ---- time passes
 
 module _ (c : Connection) (n : ℕ) where
+  pub time-row : (m : ℕ) → (timeSays c n .0 .number ≡ m) ↔ Given m (timeSays c n .1) (timeTable c n)
+  time-row = given (timeTable c n) (time-told c n)
+
   pub time-row-0 : Says 0 (recordLater c n) (timeSays c n) (timeTable c n)
   time-row-0 = says _ (time-told c n) 0 refl
 
@@ -152,9 +163,12 @@ module _ (c : Connection) (n : ℕ) where
 -- ---- what is due
 
 module _ (c : Connection) (m : List ℕ) where
+  pub due-row : (n : ℕ) → (dueSays c m .0 .number ≡ n) ↔ Given n (dueSays c m .1) (dueTable c m)
+  due-row = given (dueTable c m) (due-told c m)
+
   -- with 0, the frame of the first row that holds is handed over, or none
   pub due-row-0 : (dueSays c m .0 .number ≡ 0) ↔ Given 0 (dueSays c m .1) (dueTable c m)
-  due-row-0 = given (dueTable c m) (due-told c m) 0
+  due-row-0 = due-row 0
 
   pub due-row-7 : Says 7 (handsNone c) (dueSays c m) (dueTable c m)
   due-row-7 = says _ (due-told c m) 7 (λ _. refl, tt)
@@ -172,6 +186,9 @@ leaving-hands-one transmit m = refl
 -- ---- send
 
 module _ (limit : ℕ) (c : Connection) (n : ℕ) where
+  pub send-row : (m : ℕ) → (sendSays limit c n .0 .number ≡ m) ↔ Given m (sendSays limit c n .1) (sendTable limit c n)
+  send-row = given (sendTable limit c n) (send-told limit c n)
+
   pub send-row-0 : Says 0 (withChannel c (withSender (c .channel) (accepted (c .channel .sender) n))) (sendSays limit c n) (sendTable limit c n)
   send-row-0 = says _ (send-told limit c n) 0 refl
 
@@ -187,6 +204,9 @@ module _ (limit : ℕ) (c : Connection) (n : ℕ) where
 -- ---- take
 
 module _ (c : Connection) (room : ℕ) where
+  pub take-row : (n : ℕ) → (takeSays c room .0 .number ≡ n) ↔ Given n (takeSays c room .1) (takeTable c room)
+  take-row = given (takeTable c room) (take-told c room)
+
   pub take-row-0 : Says 0 (c .channel .receiver .complete .length, withChannel c (withReceiver (c .channel) (messageTaken (c .channel .receiver)))) (takeSays c room) (takeTable c room)
   take-row-0 = says _ (take-told c room) 0 refl
 
@@ -202,6 +222,9 @@ module _ (c : Connection) (room : ℕ) where
 -- ---- close
 
 module _ (c : Connection) where
+  pub close-row : (n : ℕ) → (closeSays c .0 .number ≡ n) ↔ Given n (closeSays c .1) (closeTable c)
+  close-row = given (closeTable c) (close-told c)
+
   pub close-row-0 : Says 0 (if isRequesting c then closedRecord else leavingOn (c .transmit)) (closeSays c) (closeTable c)
   close-row-0 = says _ (close-told c) 0 refl
 

@@ -12,7 +12,7 @@ use Rattle.telegram.specs.declared.payload.Payload.{Payload}
 use Rattle.telegram.specs.Kinds.{top, bit5, bit4, number, fields, ackOf, testOf, disconnectOf, setupOf, acceptOf}
 use Rattle.settings.specs.Settings.{allowed}
 use Rattle.settings.specs.declared.Settings.{Settings}
-use Rattle.sender.specs.Sending.{distance, heldFor, accepted, acknowledged, finished, again, advanced, passed, frameDue, firstNumber}
+use Rattle.sender.specs.Sending.{distance, heldFor, accepted, acknowledged, finished, again, advanced, frameDue, firstNumber, later as waitsLess}
 use Rattle.sender.specs.declared.Sender.{Sender}
 use Rattle.receiver.specs.Receiving.{none, waiting, first, kept, discarded, used, completed, copied, returned, ackHanded}
 use Rattle.receiver.specs.declared.Receiver.{Receiver}
@@ -22,8 +22,9 @@ use Rattle.channel.specs.Opened.{withSender, withReceiver, withTests, withAccep
 use Rattle.connection.specs.declared.Attempt.{Attempt}
 use Rattle.connection.specs.declared.Connection.{Connection}
 use Rattle.connection.specs.declared.Frame.{Frame}
-use Rattle.connection.specs.Numbers.{Said, plain, said}
-use Rattle.connection.specs.Record.{requestId, isClosed, isRequesting, isAgreeing, isOpen, closedRecord, leavingOn, requesting, agreeing, ownFields, opened, withAttempt, withChannel, listensOn}
+use Rattle.connection.specs.declared.Said.{Said}
+use Rattle.connection.specs.Numbers.{plain}
+use Rattle.connection.specs.Record.{requestId, isClosed, isRequesting, isAgreeing, isOpen, closedRecord, leavingOn, requesting, agreeing, ownFields, opened, withAttempt, withChannel, hears}
 use Rattle.connection.specs.Calls.{waitsOn, repeatDue, attemptOut, noFrame, opening, arrived, buffered, elapsed, dueOf, sentBy, takenBy, closed}
 use Rattle.connection_rows.specs.Tables.{row, Table, always, _orElse_}
 
@@ -57,9 +58,11 @@ isReady s = eqb (bit5 (getD s 0 0)) 1
 unfoldable pub isTest : List ℕ → Bool
 isTest s = eqb (length s) 1 && eqb (getD s 0 0) 0xA3
 
+-- "A4 break"
 unfoldable pub isBreak : List ℕ → Bool
 isBreak s = eqb (length s) 1 && eqb (getD s 0 0) 0xA4
 
+-- "A8 disconnect"
 unfoldable pub isDisconnect : List ℕ → Bool
 isDisconnect s = eqb (length s) 1 && eqb (getD s 0 0) 0xA8
 
@@ -67,6 +70,7 @@ isDisconnect s = eqb (length s) 1 && eqb (getD s 0 0) 0xA8
 unfoldable pub isSetup : List ℕ → Bool
 isSetup s = eqb (length s) 6 && eqb (getD s 0 0) 0xA0
 
+-- "Six bytes: .. A1"
 unfoldable pub isAccept : List ℕ → Bool
 isAccept s = eqb (length s) 6 && eqb (getD s 0 0) 0xA1
 
@@ -89,7 +93,7 @@ isPositive receive s =
 
 -- row 3, "another CAN ID": "0x200 + unit until D0, then our receive ID"
 abbrev pub otherId : Connection → ℕ → Bool
-otherId c id = not (eqb id (listensOn c))
+otherId c id = not (hears c id)
 
 -- row 1, "badly formed": while the D0 is awaited no reply, and then no telegram
 abbrev pub badForm : Connection → List ℕ → Bool
@@ -198,7 +202,7 @@ shortFirst c s room = isJudged c s && atFirst c && ltb room (declared c s)
 
 -- ---- a frame arrives: what is left
 
--- "nothing changes, except an asked-for Ack"
+-- "nothing changes, except an asked-for Ack"; where one becomes due, a break returns to this place
 abbrev pub askedForAck : Connection → List ℕ → Connection
 askedForAck c s = withChannel c (withReceiver (c .channel) (kept (c .channel .receiver) (isData s && asksAck s)))
 
@@ -274,7 +278,7 @@ arrivalTable limit c id s b =
 -- what an arrival says and leaves, lent the buffer b
 abbrev pub arriveSays : (limit : ℕ) → Connection → (id : ℕ) → (s b : List ℕ) → Said × (Connection × List ℕ)
 arriveSays limit c id s b =
-    (said (arrived limit c id s (length b) .answer), (arrived limit c id s (length b) .connection, buffered limit c id s b))
+    (arrived limit c id s (length b) .told .said, (arrived limit c id s (length b) .connection, buffered limit c id s b))
 
 -- ---- open
 
@@ -285,8 +289,9 @@ openTable c s =
     orElse row (not (allowed s)) 10 c
     orElse always (plain 0) (requesting s)
 
+-- what an open says and leaves
 abbrev pub openSays : Connection → Settings → Said × Connection
-openSays c s = (said (opening c s .answer), opening c s .connection)
+openSays c s = (opening c s .told .said, opening c s .connection)
 
 -- ---- time passes
 
@@ -319,13 +324,17 @@ attemptAfter a n = if runsOut (a .wait) n then repeatDue a else waitsOn a n
 abbrev pub testsAfter : Tests → ℕ → Tests
 testsAfter t n = if runsOut (t .wait) n then ranOut t n else later t n
 
+-- the sending half n tenths later: "A wait that runs out adds one to the repeat count and sends again from the oldest unacknowledged frame"
+abbrev pub sendingLater : Sender → ℕ → Sender
+sendingLater s n = if runsOut (s .wait) n then again s (s .hold - n) (s .gap - n) else waitsLess s n
+
 -- "All timers that end in one time call take effect"
 abbrev pub recordLater : Connection → ℕ → Connection
 recordLater c n =
     if isClosed c then c
     else if isRequesting c || isAgreeing c then withAttempt c (attemptAfter (c .attempt) n)
     else withChannel c
-    (withTests (withSender (c .channel) (passed (c .channel .parameters .terms) (c .channel .sender) n .sender)) (testsAfter (c .channel .tests) n))
+    (withTests (withSender (c .channel) (sendingLater (c .channel .sender) n)) (testsAfter (c .channel .tests) n))
 
 -- "Time and due calls are good in every state": 0, or 8
 abbrev pub timeTable : Connection → ℕ → Table Connection
@@ -333,8 +342,9 @@ timeTable c n =
     row (openingUsedUp c n || repeatsUsedUp c n || testsUsedUp c n) 8 closedRecord
     orElse always (plain 0) (recordLater c n)
 
+-- what a time call says and leaves
 abbrev pub timeSays : Connection → ℕ → Said × Connection
-timeSays c n = (said (elapsed c n .answer), elapsed c n .connection)
+timeSays c n = (elapsed c n .told .said, elapsed c n .connection)
 
 -- ---- what is due
 
@@ -350,13 +360,7 @@ handsNone c = (false, noFrame, c)
 abbrev pub testOut : Channel → Channel
 testOut c =
     withTests c
-    (record {
-      out = true;
-      again = false;
-      wait = c .parameters .terms .t1;
-      unanswered = c .tests .unanswered;
-      interval = c .tests .interval;
-    })
+    (record { out = true; again = false; wait = c .parameters .terms .t1; unanswered = c .tests .unanswered; interval = c .tests .interval })
 
 -- "Sending order .. CA and test, break, Ack, then data, CS, DC. Ties (house): CA, test; DC, CS, data"; row 7, "lent message not of the accepted length", "only when the frame to hand over is data"
 abbrev pub dueTable : Connection → (m : List ℕ) → Table (Bool × Frame × Connection)
@@ -377,8 +381,9 @@ dueTable c m =
     (withChannel c (restarted (withSender (c .channel) (advanced (c .channel .parameters .terms) (c .channel .sender))))))
     orElse always (plain 0) (handsNone c)
 
+-- what a due call says, hands over and leaves
 abbrev pub dueSays : Connection → (m : List ℕ) → Said × (Bool × Frame × Connection)
-dueSays c m = (said (dueOf c m .answer), (dueOf c m .given, dueOf c m .frame, dueOf c m .connection))
+dueSays c m = (dueOf c m .told .said, (dueOf c m .given, dueOf c m .frame, dueOf c m .connection))
 
 -- ---- send, take and close
 
@@ -390,8 +395,9 @@ sendTable limit c n =
     orElse row (eqb n 0 || ltb limit n) 6 c
     orElse always (plain 0) (withChannel c (withSender (c .channel) (accepted (c .channel .sender) n)))
 
+-- what a send says and leaves
 abbrev pub sendSays : (limit : ℕ) → Connection → (n : ℕ) → Said × Connection
-sendSays limit c n = (said (sentBy limit c n .answer), sentBy limit c n .connection)
+sendSays limit c n = (sentBy limit c n .told .said, sentBy limit c n .connection)
 
 -- the receiving half once its message is taken
 abbrev pub messageTaken : Receiver → Receiver
@@ -406,8 +412,9 @@ takeTable c room =
     orElse always (plain 0)
     (c .channel .receiver .complete .length, withChannel c (withReceiver (c .channel) (messageTaken (c .channel .receiver))))
 
+-- what a take says, the length that it shows, and what it leaves
 abbrev pub takeSays : Connection → (room : ℕ) → Said × (ℕ × Connection)
-takeSays c room = (said (takenBy c room .answer), (takenBy c room .len, takenBy c room .connection))
+takeSays c room = (takenBy c room .told .said, (takenBy c room .len, takenBy c room .connection))
 
 -- "any .. close on a closed record" gives 4; "leaves one A8 due if the transmit ID is known, else nothing"
 abbrev pub closeTable : Connection → Table Connection
@@ -415,5 +422,6 @@ closeTable c =
     row (isClosed c) 4 c
     orElse always (plain 0) (if isRequesting c then closedRecord else leavingOn (c .transmit))
 
+-- what a close says and leaves
 abbrev pub closeSays : Connection → Said × Connection
-closeSays c = (said (closed c .answer), closed c .connection)
+closeSays c = (closed c .told .said, closed c .connection)

@@ -2,10 +2,10 @@
 // output, written before the next line is waited for. A line that is no call answers "error line N" and changes nothing.
 ghost use Prim.Native.Nat.{_≤_};
 ghost use Rattle.io.specs.Counts.{Counts};
-use connection::Answer;
-use connection::Arrived;
+use connection::Answered;
 use connection::Connection;
 use connection::Frame;
+use connection::Told;
 use connection::shown;
 use settings::Settings;
 
@@ -208,10 +208,12 @@ impl Console {
     }
 
     // Says an answer, and goes on with the connection that it leaves.
-    fn answered(self, answer: Answer, connection: Connection) -> Console {
-        tell(answer);
+    fn answered(self, answered: Answered) -> Console {
+        let told = answered.told;
+        let next = answered.connection;
+        tell(told);
         say(b"\n");
-        self.holding(connection)
+        self.holding(next)
     }
 
     fn renewed(self, buffer: &mut [u8]) -> Console {
@@ -222,26 +224,18 @@ impl Console {
 
     fn opening(self, settings: Settings) -> Console {
         let connection = self.connection;
-        let opened = connection.open(settings);
-        let answer = opened.answer;
-        let next = opened.connection;
-        self.answered(answer, next)
+        self.answered(connection.open(settings))
     }
 
     fn arriving(self, id: u16, bytes: &[u8], buffer: &mut [u8]) -> Console {
         let connection = self.connection;
-        let arrived = arrive(connection, id, bytes, buffer, self.room);
-        let answer = arrived.answer;
-        let next = arrived.connection;
-        self.answered(answer, next)
+        let room = self.room;
+        self.answered(arrive(connection, id, bytes, buffer, room))
     }
 
     fn waiting(self, tenths: u64) -> Console {
         let connection = self.connection;
-        let elapsed = connection.elapse(tenths);
-        let answer = elapsed.answer;
-        let next = elapsed.connection;
-        self.answered(answer, next)
+        self.answered(connection.elapse(tenths))
     }
 
     // What is due, the message last accepted being lent.
@@ -253,11 +247,11 @@ impl Console {
     fn handing(self, message: &[u8]) -> Console {
         let connection = self.connection;
         let due = connection.due(message);
-        let answer = due.answer;
+        let told = due.told;
         let given = due.given;
         let frame = due.frame;
         let next = due.connection;
-        tell(answer);
+        tell(told);
         if given {
             say_frame(frame);
         }
@@ -269,22 +263,21 @@ impl Console {
     fn sending(mut self, bytes: &[u8], message: &mut [u8]) -> Console {
         let connection = self.connection;
         let sent = connection.send(bytes);
-        let answer = sent.answer;
-        let next = sent.connection;
-        if number_of(answer) != 0 {
-            return self.answered(answer, next);
+        let said = sent.told.said;
+        if said.number != 0 {
+            return self.answered(sent);
         }
         self.length = keep(bytes, message);
-        self.answered(answer, next)
+        self.answered(sent)
     }
 
     fn taking(self, buffer: &[u8]) -> Console {
         let connection = self.connection;
         let taken = connection.take_step(self.room);
-        let answer = taken.answer;
+        let told = taken.told;
         let len = taken.len;
         let next = taken.connection;
-        tell(answer);
+        tell(told);
         if 0 < len {
             say(b" ");
             say_pairs(shown(buffer, len));
@@ -295,10 +288,7 @@ impl Console {
 
     fn closing(self) -> Console {
         let connection = self.connection;
-        let closed = connection.close();
-        let answer = closed.answer;
-        let next = closed.connection;
-        self.answered(answer, next)
+        self.answered(connection.close())
     }
 
     fn lending(mut self, room: usize) -> Console {
@@ -316,40 +306,23 @@ impl Console {
 }
 
 // A frame arrives, the first room bytes of the buffer being lent.
-fn arrive(c: Connection, id: u16, bytes: &[u8], buffer: &mut [u8], room: usize) -> Arrived {
+fn arrive(c: Connection, id: u16, bytes: &[u8], buffer: &mut [u8], room: usize) -> Answered {
     if buffer.len() < room {
         return c.arrive(id, bytes, buffer);
     }
     c.arrive(id, bytes, &mut buffer[..room])
 }
 
-// The number of an answer.
-fn number_of(answer: Answer) -> u8 {
-    match answer {
-        Answer::Good => 0,
-        Answer::Done => 0,
-        Answer::Malformed => 1,
-        Answer::BlockSize => 2,
-        Answer::OtherId => 3,
-        Answer::NotDue => 4,
-        Answer::Busy => 5,
-        Answer::BadLength => 6,
-        Answer::ShortBuffer => 7,
-        Answer::UsedUp => 8,
-        Answer::Broken(_) => 9,
-        Answer::OutOfRange => 10,
-        Answer::Refused(_) => 11,
-        Answer::NoChange => 12,
-    }
-}
-
 // Says an answer's number and what it carries.
-fn tell(answer: Answer) {
-    io::print_decimal(1, number_of(answer) as u64);
-    match answer {
-        Answer::Done => say(b" done"),
-        Answer::Refused(opcode) => say(&[b' ', digit(opcode / 16), digit(opcode % 16)]),
-        _ => {}
+fn tell(told: Told) {
+    let said = told.said;
+    let opcode = said.opcode;
+    io::print_decimal(1, said.number as u64);
+    if said.done {
+        say(b" done");
+    }
+    if said.number == 11 {
+        say(&[b' ', digit(opcode / 16), digit(opcode % 16)]);
     }
 }
 

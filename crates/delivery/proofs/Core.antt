@@ -28,7 +28,7 @@ use Rattle.channel.specs.declared.Answer.{Answer}
 use Rattle.channel.specs.declared.Answer.the-variants.{Good, UsedUp}
 use Rattle.channel.specs.Numbers.{closes}
 use Rattle.channel.specs.Opened.{ackAnswer}
-use Rattle.delivery.specs.System.{Try, History, Fate, accepting, handing, told, counting, losing, lent, shownBy}
+use Rattle.delivery.specs.System.{Try, History, Fate, accepting, withMessages, withTries, handing, told, losing, lent, shownBy}
 use Rattle.delivery.specs.System.Side.{near}
 use Rattle.delivery.specs.System.Fate.{goes, stays, lost}
 
@@ -149,31 +149,11 @@ withAcks d l h =
 
 -- the history with other losses
 abbrev pub withLosses : History → List Try → History
-withLosses h l =
-    record {
-      accepted = h .accepted;
-      handedOut = h .handedOut;
-      done = h .done;
-      lost = h .lost;
-      frames = h .frames;
-      turns = h .turns;
-      ackTry = h .ackTry;
-      losses = l;
-    }
+withLosses h l = withTries h (h .frames) (h .turns) (h .ackTry) l
 
 -- and with other messages handed out
 abbrev pub withHandedOut : History → List (List ℕ) → History
-withHandedOut h l =
-    record {
-      accepted = h .accepted;
-      handedOut = l;
-      done = h .done;
-      lost = h .lost;
-      frames = h .frames;
-      turns = h .turns;
-      ackTry = h .ackTry;
-      losses = h .losses;
-    }
+withHandedOut h l = withMessages h (h .accepted) l (h .done) (h .lost)
 
 -- ---- at the sending end
 
@@ -216,6 +196,10 @@ frameNow d =
       try = tryNow d;
     })
 
+-- a data frame handed over, and whether it asks for an Ack
+abbrev pub counting : History → Try → Bool → History
+counting h t asks = withTries h (t ∷ h .frames) (if asks then h .turns + 1 else h .turns) (h .ackTry) (h .losses)
+
 -- the link with the next frame, and the history that counts it
 abbrev pub withFrame : Direction → Sender → Direction
 withFrame d s =
@@ -251,17 +235,7 @@ hearing lost (f ∷ l) d = withAcks d l (losing (d .history) (f .try))
 
 -- a frame with AR came: the Ack that it makes due belongs to its try
 abbrev pub askedBy : History → (asks : Bool) → Try → History
-askedBy h asks t =
-    record {
-      accepted = h .accepted;
-      handedOut = h .handedOut;
-      done = h .done;
-      lost = h .lost;
-      frames = h .frames;
-      turns = h .turns;
-      ackTry = if asks then t else h .ackTry;
-      losses = h .losses;
-    }
+askedBy h asks t = withTries h (h .frames) (h .turns) (if asks then t else h .ackTry) (h .losses)
 
 -- what a data frame leaves, in the receiver and in its buffer
 abbrev pub receivedTo : Direction → DataFrame → Received → Direction

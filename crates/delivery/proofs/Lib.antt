@@ -17,5 +17,6 @@ pub mod TriesHearing
 pub mod TriesReceiving
 pub mod Finishes
 pub mod Second
+pub mod Example
 pub mod NotEmpty
 pub mod Demand3

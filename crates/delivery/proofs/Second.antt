@@ -13,11 +13,11 @@ use Rattle.sender.specs.declared.Handed.{Handed}
 use Rattle.channel.specs.declared.Channel.{Channel}
 use Rattle.channel.specs.declared.Due.{Due}
 use Rattle.channel.specs.Opened.{testDue, handAccept, handTest, handAck, handBy, handData, due as dueOf}
-use Rattle.delivery.specs.System.{End, Flying, System, Call, step, run}
+use Rattle.delivery.specs.System.{End, Flying, System, Call, isData, step, run}
 use Rattle.delivery.specs.System.Side.{near, far}
 use Rattle.delivery.specs.System.Fate.{goes, stays, lost as loses}
 use Rattle.delivery.specs.System.Call.{send, take as takes, time, due, arrive}
-use Rattle.delivery.specs.Claim.{Always, Along, Fresh, NoTest, InTime, isData, NoneWaits, TakenFirst, AtRest, FewLosses, framesFor, AllDone}
+use Rattle.delivery.specs.Claim.{Always, Along, Fresh, NoTest, InTime, NoneWaits, TakenFirst, AtRest, FewLosses, framesFor, AllDone}
 use Rattle.delivery.proofs.Tries.{Left, Each, Says, Tried}
 use Rattle.delivery.proofs.Tries.Left.{none}
 use Rattle.delivery.proofs.Tries.Each.{none as noAcks}

@@ -37,16 +37,15 @@ use Rattle.channel.specs.declared.Channel.{Channel}
 use Rattle.channel.specs.declared.Tests.{Tests}
 use Rattle.channel.specs.declared.Due.{Due}
 use Rattle.channel.specs.declared.Answer.{Answer}
-use Rattle.channel.specs.declared.Arrived.{Arrived}
-use Rattle.channel.specs.declared.Elapsed.{Elapsed}
-use Rattle.channel.specs.Numbers.{numberOf, closes}
+use Rattle.channel.specs.declared.Answered.{Answered}
+use Rattle.channel.specs.Numbers.{said, closes}
 use Rattle.channel.specs.Opened.{withSender, withTests, restarted, dataAnswer, offerAnswer, answered, onData, onAck, arrived, waitEnds, later as testsLater, lost as lostBy, went, repeatsUsedUp, elapsed, testDue, handAck, handBy, handData, due as dueOf, sent as sentBy}
-use Rattle.delivery.specs.System.{End, Try, Flying, History, System, Fate, Call, accepting, asked, told, left, sending, taking, timing, asking, arriving, lent, step, tryOf, counted, counting, withHistory, withLinkTo, withEnd}
+use Rattle.delivery.specs.System.{End, Try, Flying, History, System, Fate, Call, accepting, asked, told, left, sending, taking, timing, asking, arriving, lent, step, tryOf, counted, withHistory, withLinkTo, withEnd}
 use Rattle.delivery.specs.System.Side.{near, far}
 use Rattle.delivery.specs.System.Fate.{goes, stays, lost}
 use Rattle.delivery.specs.System.Call.{send, take as takes, time, due, arrive}
 use Rattle.delivery.specs.Claim.{NoTest}
-use Rattle.delivery.proofs.Core.{DataFrame, AckFrame, Direction, Move, withFrames, withAcks, withFrame, withAck, offeredTo, passedTo, handedTo, frameNow, tryNow, askedBy, move}
+use Rattle.delivery.proofs.Core.{DataFrame, AckFrame, Direction, Move, withFrames, withAcks, withFrame, withAck, offeredTo, passedTo, handedTo, frameNow, tryNow, counting, askedBy, move}
 use Rattle.delivery.proofs.SendingKeeps.{frame-due}
 use Rattle.delivery.proofs.Core.Move.{offer, hear, pass, hand, receive, taken, acknowledge, rest}
 
@@ -187,12 +186,12 @@ withInterval c n =
 
 -- the interval started again or not: only the interval may differ
 answered-as : (a : Answer) (c : Channel)
-    → answered a c ≡ record { answer = a; channel = withInterval c (if eqb (numberOf a) 0 then c .parameters .interval else c .tests .interval) }
+    → answered a c ≡ record { answer = a; channel = withInterval c (if eqb (said a .number) 0 then c .parameters .interval else c .tests .interval) }
 unfolding answered
-answered-as a c = go (eqb (numberOf a) 0)
+answered-as a c = go (eqb (said a .number) 0)
   where
     go : (t : Bool)
-        → _≡_ {A = Arrived} (if t then record { answer = a; channel = restarted c } else record { answer = a; channel = c })
+        → _≡_ {A = Answered} (if t then record { answer = a; channel = restarted c } else record { answer = a; channel = c })
         (record { answer = a; channel = withInterval c (if t then c .parameters .interval else c .tests .interval) })
     go true = refl
     go false = refl
@@ -219,7 +218,7 @@ unfolding waitEnds
 tests-fine t n e = rw e
 
 -- what the sending half's time makes of a channel then
-abbrev elapsedBy : Channel → ℕ → Passed → Elapsed
+abbrev elapsedBy : Channel → ℕ → Passed → Answered
 elapsedBy c n g = if repeatsUsedUp (g .note) then lostBy c else went c (g .sender) (testsLater (c .tests) n)
 
 elapsed-by : (c : Channel) (n : ℕ) → c .tests .wait ≡ 0 → elapsed c n ≡ elapsedBy c n (passed (c .parameters .terms) (c .sender) n)
@@ -297,7 +296,7 @@ module _ (limit : ℕ) (nc : Channel) (nb : List ℕ) (fc : Channel) (fb : List 
 
       go : (n : Offer) (s : Sender)
           → Stepped (offeredTo (directionOf (sys true)) m (record { note = n; sender = s }))
-          (if eqb (numberOf (offerAnswer n)) 0
+          (if eqb (said (offerAnswer n) .number) 0
           then withHistory (withEnd near (sys true) (left (withSender nc s) nb (offerAnswer n))) (accepting h m)
           else withEnd near (sys true) (left (withSender nc s) nb (offerAnswer n)))
       go Accepted s = record { moves = refl; sides = sides s (accepting h m) }

@@ -9,12 +9,10 @@ use lib.Dec.{eqb}
 use Rattle.laws.specs.If.{if_then_else_}
 use Rattle.telegram.specs.Kinds.{sorted}
 use Rattle.telegram.specs.Cutting.{framesOf}
-use Rattle.telegram.specs.declared.kinds.Telegram.{Telegram}
-use Rattle.telegram.specs.declared.kinds.Telegram.the-variants.{Data, Ack, Test, Break, Disconnect, Setup, Accept, Malformed}
 use Rattle.sender.specs.Sending.{fresh as freshSender}
 use Rattle.receiver.specs.Receiving.{waiting, fresh as freshReceiver}
 use Rattle.channel.specs.Opened.{quiet, testDue, due as dueOf}
-use Rattle.delivery.specs.System.{System, End, Flying, Try, History, Call, endOf, linkTo, other, lent, step, run}
+use Rattle.delivery.specs.System.{System, End, Flying, Try, History, Call, endOf, linkTo, other, lent, isData, step, run}
 use Rattle.delivery.specs.System.Side.{near, far}
 use Rattle.delivery.specs.System.Fate.{goes, stays, lost}
 use Rattle.delivery.specs.System.Call.{send, take as takes, time, due, arrive}
@@ -45,17 +43,7 @@ pub record FreshEnd (e : End) : Type 0 where
 
 -- nothing has happened yet
 abbrev pub noHistory : Try → History
-noHistory t =
-    record {
-      accepted = [];
-      handedOut = [];
-      done = 0;
-      lost = false;
-      frames = [];
-      turns = 0;
-      ackTry = t;
-      losses = [];
-    }
+noHistory t = record { accepted = []; handedOut = []; done = 0; lost = false; frames = []; turns = 0; ackTry = t; losses = [] }
 
 -- "two fresh ends of one connection, block size 1 to 15, both links empty"
 pub record Fresh (s : System) : Type 0 where
@@ -89,6 +77,7 @@ WholeOrNever limit s =
     (cs : List Call) → Always limit NoTest s cs →
     (length (run limit s cs .history .handedOut) ≤ s .history .done) ⊎ (run limit s cs .history .handedOut ≡ s .history .accepted)
 
+-- the first half: what holds after every list of calls
 pub record Delivered (limit : ℕ) (s : System) : Type 0 where
   -- "the messages handed out are the first so many accepted, in order, once, byte for byte"
   pub inOrder : s .history .handedOut ≡ take (length (s .history .handedOut)) (s .history .accepted)
@@ -116,17 +105,6 @@ InTime s (send m) = Unit {0}
 InTime s (takes side) = Unit {0}
 InTime s (due side) = Unit {0}
 InTime s (arrive side fate) = Unit {0}
-
--- the telegram is data
-abbrev pub isData : Telegram → Bool
-isData (Data asks last number) = true
-isData (Ack ready number) = false
-isData Test = false
-isData Break = false
-isData Disconnect = false
-isData (Setup p) = false
-isData (Accept p) = false
-isData Malformed = false
 
 -- no data frame comes to an end, copies and refused ones too, while a complete message waits untaken there
 abbrev pub NoneWaits : End → List Flying → Type 0
@@ -163,6 +141,7 @@ turnsOf i b [] = []
 turnsOf i b (t ∷ ts) =
     if eqb (t .message) i then (if eqb (t .block) b then t .turn ∷ turnsOf i b ts else turnsOf i b ts) else turnsOf i b ts
 
+-- a number stands in a list
 abbrev pub member : ℕ → List ℕ → Bool
 member x [] = false
 member x (y ∷ ys) = if eqb x y then true else member x ys
@@ -181,6 +160,7 @@ abbrev pub framesFor : (message : ℕ) → List Try → ℕ
 framesFor i [] = 0
 framesFor i (t ∷ ts) = if eqb (t .message) i then framesFor i ts + 1 else framesFor i ts
 
+-- the second half: what holds at rest
 pub record AllDone (repeats : ℕ) (h : History) : Type 0 where
   -- "every message accepted is done"
   pub done : h .done ≡ length (h .accepted)
@@ -191,13 +171,17 @@ pub record AllDone (repeats : ℕ) (h : History) : Type 0 where
 
 -- the limit on lengths is what two length bytes can say at most
 pub record Demand3 (limit : ℕ) (s : System) (cs : List Call) : Type 0 where
-  pub first :
-      Always limit NoTest s cs → Roomy s (run limit s cs) → Delivered limit (run limit s cs)
+  pub first : Always limit NoTest s cs → Roomy s (run limit s cs) → Delivered limit (run limit s cs)
   pub second :
       Always limit NoTest s cs → Roomy s (run limit s cs) →
       Along limit InTime s cs → Along limit TakenFirst s cs → AtRest (run limit s cs) →
       FewLosses (s .near .channel .parameters .terms .repeats) (run limit s cs .history .losses) →
       AllDone (s .near .channel .parameters .terms .repeats) (run limit s cs .history)
+  -- with so few losses 8 is never answered, at rest or not
+  pub stays :
+      Always limit NoTest s cs → Along limit InTime s cs → Along limit TakenFirst s cs →
+      FewLosses (s .near .channel .parameters .terms .repeats) (run limit s cs .history .losses) →
+      run limit s cs .near .live ≡ true
 
 -- for every list of calls
 abbrev pub Demand3Holds : Type 0

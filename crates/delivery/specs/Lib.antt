@@ -1,3 +1,2 @@
 pub mod System
 pub mod Claim
-pub mod Example

@@ -15,7 +15,7 @@ use Rattle.receiver.specs.declared.Taking.{Taking}
 use Rattle.receiver.specs.declared.Taking.the-variants.{Shown, NoneComplete, ShortBuffer}
 use Rattle.channel.specs.declared.Channel.{Channel}
 use Rattle.channel.specs.declared.Answer.{Answer}
-use Rattle.channel.specs.Numbers.{numberOf, saysDone, closes}
+use Rattle.channel.specs.Numbers.{said, closes}
 use Rattle.channel.specs.Opened.{arrived, bufferedBy, elapsed, withReceiver, due as dueOf, sent as sentBy}
 
 -- one end: its channel, its one lent buffer, and whether it is open still
@@ -62,6 +62,7 @@ pub record System : Type 0 where
   pub backward : List Flying
   pub history : History
 
+-- the sending side and the receiving side
 pub data Side : Type 0 where
   near far : Side
 
@@ -79,26 +80,31 @@ pub data Call : Type 0 where
 
 -- ---- parts of a system
 
+-- the end on a side, and a system with another end there
 abbrev pub endOf : Side → System → End
 endOf near s = s .near
 endOf far s = s .far
 
+-- a system with another end on a side
 abbrev pub withEnd : Side → System → End → System
 withEnd near s e = record { near = e; far = s .far; forward = s .forward; backward = s .backward; history = s .history }
 withEnd far s e = record { near = s .near; far = e; forward = s .forward; backward = s .backward; history = s .history }
 
--- the frames on their way to a side
+-- the frames on their way to a side, and a system with others there
 abbrev pub linkTo : Side → System → List Flying
 linkTo near s = s .backward
 linkTo far s = s .forward
 
+-- a system with other frames on their way to a side
 abbrev pub withLinkTo : Side → System → List Flying → System
 withLinkTo near s l = record { near = s .near; far = s .far; forward = s .forward; backward = l; history = s .history }
 withLinkTo far s l = record { near = s .near; far = s .far; forward = l; backward = s .backward; history = s .history }
 
+-- a system with another history
 abbrev pub withHistory : System → History → System
 withHistory s h = record { near = s .near; far = s .far; forward = s .forward; backward = s .backward; history = h }
 
+-- the other side
 abbrev pub other : Side → Side
 other near = far
 other far = near
@@ -109,121 +115,74 @@ lent h = getD (h .accepted) (length (h .accepted) - 1) []
 
 -- ---- what the history notes
 
+-- a history with other messages
+abbrev pub withMessages : History → (accepted handedOut : List (List ℕ)) → (done : ℕ) → (lost : Bool) → History
+withMessages h a o d l =
+    record { accepted = a; handedOut = o; done = d; lost = l; frames = h .frames; turns = h .turns; ackTry = h .ackTry; losses = h .losses }
+
+-- a history with other tries
+abbrev pub withTries : History → (frames : List Try) → (turns : ℕ) → (ackTry : Try) → (losses : List Try) → History
+withTries h f n t l =
+    record { accepted = h .accepted; handedOut = h .handedOut; done = h .done; lost = h .lost; frames = f; turns = n; ackTry = t; losses = l }
+
 -- a message accepted
 abbrev pub accepting : History → List ℕ → History
-accepting h m =
-    record {
-      accepted = h .accepted ++ (m ∷ []);
-      handedOut = h .handedOut;
-      done = h .done;
-      lost = h .lost;
-      frames = h .frames;
-      turns = h .turns;
-      ackTry = h .ackTry;
-      losses = h .losses;
-    }
+accepting h m = withMessages h (h .accepted ++ (m ∷ [])) (h .handedOut) (h .done) (h .lost)
 
 -- messages handed out
 abbrev pub handing : History → List (List ℕ) → History
-handing h ms =
-    record {
-      accepted = h .accepted;
-      handedOut = h .handedOut ++ ms;
-      done = h .done;
-      lost = h .lost;
-      frames = h .frames;
-      turns = h .turns;
-      ackTry = h .ackTry;
-      losses = h .losses;
-    }
+handing h ms = withMessages h (h .accepted) (h .handedOut ++ ms) (h .done) (h .lost)
 
 -- the sending end's answer: done, or 8
+abbrev pub noted : Side → History → (done lost : Bool) → History
+noted near h d l = withMessages h (h .accepted) (h .handedOut) (if d then h .done + 1 else h .done) (h .lost || l)
+noted far h d l = h
+
+-- the same of a channel's answer
 abbrev pub told : Side → History → Answer → History
-told near h a =
-    record {
-      accepted = h .accepted;
-      handedOut = h .handedOut;
-      done = if saysDone a then h .done + 1 else h .done;
-      lost = h .lost || eqb (numberOf a) 8;
-      frames = h .frames;
-      turns = h .turns;
-      ackTry = h .ackTry;
-      losses = h .losses;
-    }
-told far h a = h
+told side h a = noted side h (said a .done) (eqb (said a .number) 8)
+
+-- the telegram is data
+abbrev pub isData : Telegram → Bool
+isData (Data asks last number) = true
+isData (Ack ready number) = false
+isData Test = false
+isData Break = false
+isData Disconnect = false
+isData (Setup p) = false
+isData (Accept p) = false
+isData Malformed = false
+
+-- it is data with AR
+abbrev pub asksAck : Telegram → Bool
+asksAck (Data asks last number) = asks
+asksAck (Ack ready number) = false
+asksAck Test = false
+asksAck Break = false
+asksAck Disconnect = false
+asksAck (Setup p) = false
+asksAck (Accept p) = false
+asksAck Malformed = false
 
 -- a frame with AR came to the receiving end: the Ack that it makes due belongs to its try
 abbrev pub asked : Side → History → Telegram → Try → History
-asked far h (Data true last number) t =
-    record {
-      accepted = h .accepted;
-      handedOut = h .handedOut;
-      done = h .done;
-      lost = h .lost;
-      frames = h .frames;
-      turns = h .turns;
-      ackTry = t;
-      losses = h .losses;
-    }
-asked far h (Data false last number) t = h
-asked far h (Ack ready number) t = h
-asked far h Test t = h
-asked far h Break t = h
-asked far h Disconnect t = h
-asked far h (Setup p) t = h
-asked far h (Accept p) t = h
-asked far h Malformed t = h
+asked far h k t = if asksAck k then withTries h (h .frames) (h .turns) t (h .losses) else h
 asked near h k t = h
 
 -- the try of a frame that is handed over: of data by the frame that was next, of an Ack that of the frame that asked for it
 abbrev pub tryOf : History → Channel → Telegram → Try
-tryOf h c (Data asks last number) =
-    record { message = length (h .accepted) - 1; block = c .sender .next / c .parameters .terms .block; turn = h .turns }
-tryOf h c (Ack ready number) = h .ackTry
-tryOf h c Test = h .ackTry
-tryOf h c Break = h .ackTry
-tryOf h c Disconnect = h .ackTry
-tryOf h c (Setup p) = h .ackTry
-tryOf h c (Accept p) = h .ackTry
-tryOf h c Malformed = h .ackTry
+tryOf h c k =
+    if isData k then record { message = length (h .accepted) - 1; block = c .sender .next / c .parameters .terms .block; turn = h .turns }
+    else h .ackTry
 
--- a data frame handed over, and whether it asks for an Ack
-abbrev pub counting : History → Try → Bool → History
-counting h t asks =
-    record {
-      accepted = h .accepted;
-      handedOut = h .handedOut;
-      done = h .done;
-      lost = h .lost;
-      frames = t ∷ h .frames;
-      turns = if asks then h .turns + 1 else h .turns;
-      ackTry = h .ackTry;
-      losses = h .losses;
-    }
-
+-- a frame handed over: data is counted for its try, and one with AR ends that try's sends
 abbrev pub counted : History → Channel → Telegram → History
-counted h c (Data asks last number) = counting h (tryOf h c (Data asks last number)) asks
-counted h c (Ack ready number) = h
-counted h c Test = h
-counted h c Break = h
-counted h c Disconnect = h
-counted h c (Setup p) = h
-counted h c (Accept p) = h
-counted h c Malformed = h
+counted h c k =
+    if isData k then withTries h (tryOf h c k ∷ h .frames) (if asksAck k then h .turns + 1 else h .turns) (h .ackTry) (h .losses) else h
 
 -- a frame lost by a link, whenever that happens, is a loss of its own try; so is a copy that arrived and stayed before
 abbrev pub losing : History → Try → History
-losing h t =
-    record {
-      accepted = h .accepted;
-      handedOut = h .handedOut;
-      done = h .done;
-      lost = h .lost;
-      frames = h .frames;
-      turns = h .turns;
-      ackTry = h .ackTry;
-      losses = t ∷ h .losses;
-    }
+losing h t = withTries h (h .frames) (h .turns) (h .ackTry) (t ∷ h .losses)
 
 -- ---- the calls
 
@@ -235,9 +194,8 @@ left c b a = record { channel = c; buffer = b; live = not (closes a) }
 unfoldable pub sending : (limit : ℕ) → System → List ℕ → System
 sending limit s m =
     (let r = sentBy limit (s .near .channel) (length m) in
-    if eqb (numberOf (r .answer)) 0
-    then withHistory (withEnd near s (left (r .channel) (s .near .buffer) (r .answer))) (accepting (s .history) m)
-    else withEnd near s (left (r .channel) (s .near .buffer) (r .answer)))
+    let t = withEnd near s (left (r .channel) (s .near .buffer) (r .answer)) in
+    if eqb (said (r .answer) .number) 0 then withHistory t (accepting (s .history) m) else t)
 
 -- what a take shows
 abbrev pub shownBy : Taking → List ℕ → List (List ℕ)
@@ -250,8 +208,7 @@ unfoldable pub taking : Side → System → System
 taking side s =
     (let e = endOf side s in
     let t = took (e .channel .receiver) (length (e .buffer)) in
-    withHistory
-    (withEnd side s (record { channel = withReceiver (e .channel) (t .receiver); buffer = e .buffer; live = e .live }))
+    withHistory (withEnd side s (record { channel = withReceiver (e .channel) (t .receiver); buffer = e .buffer; live = e .live }))
     (handing (s .history) (shownBy (t .note) (shown (e .channel .receiver) (e .buffer)))))
 
 -- time has passed
@@ -267,13 +224,9 @@ asking side s =
     (let e = endOf side s in
     let d = dueOf (e .channel) (lent (s .history)) in
     let k = sorted (sent (d .payload)) .kind in
+    let f : Flying = record { bytes = sent (d .payload); try = tryOf (s .history) (e .channel) k } in
     let t = withEnd side s (left (d .channel) (e .buffer) (d .answer)) in
-    if d .given
-    then withHistory
-    (withLinkTo (other side) t
-    (linkTo (other side) s ++ (record { bytes = sent (d .payload); try = tryOf (s .history) (e .channel) k } ∷ [])))
-    (counted (s .history) (e .channel) k)
-    else t)
+    if d .given then withHistory (withLinkTo (other side) t (linkTo (other side) s ++ (f ∷ []))) (counted (s .history) (e .channel) k) else t)
 
 -- a frame arrives at an end, lent its buffer
 unfoldable pub arriving : (limit : ℕ) → Side → System → Flying → System

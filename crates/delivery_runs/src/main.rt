@@ -137,7 +137,7 @@ fn offer(mut ends: Ends, len: usize) -> Ends {
     let answer = r.answer;
     let next = r.channel;
     ends.near = next;
-    if channel::number(answer) == 0 {
+    if channel::say(answer).number == 0 {
         ends.length = len;
     }
     tell(answer);
@@ -222,7 +222,7 @@ fn arrive_near(mut ends: Ends, stays: bool, buffer: &mut [u8]) -> Ends {
     ends
 }
 
-fn arrive(end: Channel, payload: Payload, buffer: &mut [u8]) -> channel::Arrived {
+fn arrive(end: Channel, payload: Payload, buffer: &mut [u8]) -> channel::Answered {
     let all = payload.bytes;
     let telegram = front(&all, payload.len);
     end.arrive(kinds::sort(telegram), behind(telegram, 1), buffer)
@@ -286,7 +286,7 @@ fn take(mut ends: Ends, buffer: &mut [u8]) -> Ends {
 
 fn tell(answer: Answer) {
     say(b" ");
-    io::print_decimal(1, channel::number(answer) as u64);
+    io::print_decimal(1, channel::say(answer).number as u64);
     if let Answer::Done = answer {
         say(b" done");
     }

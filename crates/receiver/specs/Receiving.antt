@@ -53,12 +53,7 @@ ackAfter r asks expected = if asks then record { due = true; ready = not (waitin
 -- what a frame leaves: a standing, and perhaps a complete message; an Ack that becomes due, or a message that ends, makes this the place that a break returns to
 unfoldable pub settled : Receiver → (asks last : Bool) → Standing → Message → Receiver
 settled r asks last standing complete =
-    record {
-      at = standing;
-      back = if asks || last then standing else r .back;
-      complete = complete;
-      ack = ackAfter r asks (standing .expected);
-    }
+    record { at = standing; back = if asks || last then standing else r .back; complete = complete; ack = ackAfter r asks (standing .expected) }
 
 -- a frame that is not used changes nothing, except an asked-for Ack
 abbrev pub kept : Receiver → (asks : Bool) → Receiver

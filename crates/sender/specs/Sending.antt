@@ -41,18 +41,7 @@ unacknowledged s = ltb (s .acked) (s .high)
 
 -- a message of n bytes in sending, from its first frame on; a hold or a gap left from before goes on
 abbrev pub accepted : Sender → ℕ → Sender
-accepted s n =
-    record {
-      length = n;
-      acked = 0;
-      high = 0;
-      next = 0;
-      oldest = s .oldest;
-      count = 0;
-      wait = 0;
-      hold = s .hold;
-      gap = s .gap;
-    }
+accepted s n = record { length = n; acked = 0; high = 0; next = 0; oldest = s .oldest; count = 0; wait = 0; hold = s .hold; gap = s .gap }
 
 -- rows 5 and 6: refused while a message is unfinished, then if empty or longer than the limit
 unfoldable pub offered : (limit : ℕ) → Sender → ℕ → Offered
@@ -72,50 +61,21 @@ distance s number = (number % 16 + 16 - s .oldest % 16) % 16
 abbrev pub heldFor : Terms → Bool → ℕ
 heldFor t ready = if ready then 0 else t .pause
 
+-- data goes on from frame k of the message, the oldest unacknowledged one, with number o; no wait runs
+abbrev pub from : Sender → (k o count hold gap : ℕ) → Sender
+from s k o n h g = record { length = s .length; acked = k; high = s .high; next = k; oldest = o; count = n; wait = 0; hold = h; gap = g }
+
 -- d more frames acknowledged: the wait ends, the repeat count returns to 0, the rest is sent from there
 abbrev pub acknowledged : Sender → (d pause : ℕ) → Sender
-acknowledged s d pause =
-    record {
-      length = s .length;
-      acked = s .acked + d;
-      high = s .high;
-      next = s .acked + d;
-      oldest = (s .oldest + d) % 16;
-      count = 0;
-      wait = 0;
-      hold = pause;
-      gap = s .gap;
-    }
+acknowledged s d pause = from s (s .acked + d) ((s .oldest + d) % 16) 0 pause (s .gap)
 
 -- the last d frames acknowledged: no message is in sending any more
 abbrev pub finished : Sender → (d pause : ℕ) → Sender
-finished s d pause =
-    record {
-      length = 0;
-      acked = 0;
-      high = 0;
-      next = 0;
-      oldest = (s .oldest + d) % 16;
-      count = 0;
-      wait = 0;
-      hold = pause;
-      gap = s .gap;
-    }
+finished s d h = record { length = 0; acked = 0; high = 0; next = 0; oldest = (s .oldest + d) % 16; count = 0; wait = 0; hold = h; gap = s .gap }
 
 -- one more repeat: no wait running, a hold or none, and on from the oldest unacknowledged frame
 abbrev pub again : Sender → (pause gap : ℕ) → Sender
-again s pause gap =
-    record {
-      length = s .length;
-      acked = s .acked;
-      high = s .high;
-      next = s .acked;
-      oldest = s .oldest;
-      count = s .count + 1;
-      wait = 0;
-      hold = pause;
-      gap = gap;
-    }
+again s pause gap = from s (s .acked) (s .oldest) (s .count + 1) pause gap
 
 -- an Ack that changes nothing
 abbrev pub ignored : Sender → Heard
@@ -147,20 +107,14 @@ heard t s Malformed = record { note = NoAck; sender = s }
 
 -- ---- time passes
 
+-- the same place in the message, with another next frame and other timers; high counts the frames ever handed over
+abbrev pub onward : Sender → (high next wait hold gap : ℕ) → Sender
+onward s i n w h g =
+    record { length = s .length; acked = s .acked; high = i; next = n; oldest = s .oldest; count = s .count; wait = w; hold = h; gap = g }
+
 -- the timers with n tenths less, each stopping at zero
 abbrev pub later : Sender → ℕ → Sender
-later s n =
-    record {
-      length = s .length;
-      acked = s .acked;
-      high = s .high;
-      next = s .next;
-      oldest = s .oldest;
-      count = s .count;
-      wait = s .wait - n;
-      hold = s .hold - n;
-      gap = s .gap - n;
-    }
+later s n = onward s (s .high) (s .next) (s .wait - n) (s .hold - n) (s .gap - n)
 
 -- time in which no wait runs out
 abbrev pub quiet : Sender → ℕ → Passed
@@ -187,17 +141,8 @@ firstNumber s = (s .oldest % 16 + 16 - s .acked % 16) % 16
 -- the next frame handed over: T3 starts, and after a frame with AR the wait
 abbrev pub advanced : Terms → Sender → Sender
 advanced t s =
-    record {
-      length = s .length;
-      acked = s .acked;
-      high = max (s .high) (s .next + 1);
-      next = s .next + 1;
-      oldest = s .oldest;
-      count = s .count;
-      wait = if asksAt (t .block) (s .length) (s .next) then t .t1 else 0;
-      hold = s .hold;
-      gap = t .t3;
-    }
+    (let wait = if asksAt (t .block) (s .length) (s .next) then t .t1 else 0 in
+    onward s (max (s .high) (s .next + 1)) (s .next + 1) wait (s .hold) (t .t3))
 
 -- no frame handed over: nothing changes
 abbrev pub noFrame : Sender → Handing → Handed

@@ -20,11 +20,11 @@ use telegram::time::less;
 // What was agreed and set for sending: the block size, our own T1 and the peer's T3 in tenths of a millisecond, the
 // repeats allowed to a block, and how long a peer that is not ready holds the data back (T_WAIT).
 pub struct Terms {
-    pub block: u8,
     pub t1: u32,
     pub t3: u32,
-    pub repeats: u8,
     pub pause: u32,
+    pub block: u8,
+    pub repeats: u8,
 }
 
 // The state of sending. Frames are counted from the start of the message; a timer at 0 does not run.

@@ -2,6 +2,7 @@
 use Prim.Native.Nat.{ℕ, _%_}
 use mathlib.Core.Bool.{Bool, not, _&&_}
 use lib.Dec.{leb, eqb}
+use Rattle.telegram.specs.Kinds.{badBlock}
 use Rattle.settings.specs.declared.Settings.{Settings}
 
 -- the defaults
@@ -24,5 +25,5 @@ defaults =
 -- receive ID 0..0x7FF, unit 0x00..0xEF, block size 1..15, T1's scale not 0, T_E 1..10,000, T_WAIT 1..65,535; T3, MNTC, repeats, interval and tests are free in their widths
 unfoldable pub allowed : Settings → Bool
 allowed s =
-    leb (s .receive) 0x7FF && leb (s .unit) 0xEF && leb 1 (s .block) && leb (s .block) 15
+    leb (s .receive) 0x7FF && leb (s .unit) 0xEF && not (badBlock (s .block))
     && not (eqb (s .t1 % 64) 0) && leb 1 (s .reply) && leb (s .reply) 10000 && leb 1 (s .pause)

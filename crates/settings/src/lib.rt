@@ -1,6 +1,7 @@
 // The eleven settings of an end, their ranges and their defaults.
 ghost use mathlib.Core.Path.{_≡_};
 ghost use Rattle.settings.specs.Settings.{defaults, allowed};
+use telegram::kinds::bad_block;
 
 // Times ending in a code are time codes; the others are tenths of a millisecond.
 pub struct Settings {
@@ -57,10 +58,8 @@ impl Settings {
         if 0xEF < self.unit {
             return false;
         }
-        if self.block < 1 {
-            return false;
-        }
-        if 15 < self.block {
+        let block = self.block;
+        if bad_block(block) {
             return false;
         }
         if self.t1 % 64 == 0 {

@@ -1,9 +1,9 @@
 -- 01, "Telegrams on an open connection": the kinds, and how a telegram is sorted and written.
 use Prim.Native.Nat.{ℕ, _+_, _/_, _%_}
-use mathlib.Core.Bool.{Bool, _&&_}
+use mathlib.Core.Bool.{Bool, _&&_, _||_}
 use mathlib.Core.List.{List, [], _∷_}
 use lib.ListN.{length, getD}
-use lib.Dec.{leb, eqb}
+use lib.Dec.{leb, ltb, eqb}
 use Rattle.laws.specs.If.{if_then_else_}
 use Rattle.telegram.specs.Outgoing.{written}
 use Rattle.telegram.specs.declared.payload.Payload.{Payload}
@@ -31,6 +31,10 @@ number b = b % 16
 -- the fields of an A0 or A1: block size, T1, T2, T3, T4; T2 and T4 are read as anything
 abbrev pub fields : List ℕ → Parameters
 fields s = record { block = getD s 1 0; t1 = getD s 2 0; t3 = getD s 4 0 }
+
+-- row 2, "A1 block size 0 or over 15"
+unfoldable pub badBlock : ℕ → Bool
+badBlock b = eqb b 0 || ltb 15 b
 
 -- data: first byte 00, AR, EOM, number, 2 to 8 bytes, AR 0 asks for an Ack; Ack: 1 0 RS 1 number, 1 byte, RS 1 is ready
 unfoldable pub kindOf : List ℕ → ℕ → Telegram

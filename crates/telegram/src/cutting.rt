@@ -1,6 +1,6 @@
 // Cutting: a message as the data telegrams that carry it, one telegram a call.
 ghost use mathlib.Core.Path.{_≡_};
-ghost use Prim.Native.Nat.{_-_, _<_, min};
+ghost use Prim.Native.Nat.{_+_, _-_, _*_, min};
 ghost use lib.ListN.{length, getD};
 ghost use Rattle.telegram.specs.Cutting.{framesOf, streamOf, headerOf, asksAt, frameAt, declaredOf, longest};
 use crate::payload::Payload;
@@ -29,28 +29,29 @@ pub fn frames(len: usize) -> usize
     len / 7 + (len % 7 + 8) / 7
 }
 
-// A byte of the length bytes and the message joined; zero past their end.
-fn byte_at(message: &[u8], at: usize) -> u8
-    ensures { λ r. ⌜ r ≡ getD (streamOf (now (message .entry))) at 0 ⌝ }
+// Byte i of the seven that the telegram behind `place` others takes of the length bytes and the message; zero past their end.
+fn byte_at(message: &[u8], place: u16, i: u8) -> u8
+    ensures { λ r. ⌜ r ≡ getD (streamOf (now (message .entry))) (7 * place + i) 0 ⌝ }
 {
+    let at = 7 * (place as usize) + i as usize;
     if at == 0 {
         return (message.len() / 256 % 256) as u8;
     }
     if at == 1 {
         return (message.len() % 256) as u8;
     }
-    let i = at - 2;
-    if i < message.len() {
-        return message[i];
+    let behind = at - 2;
+    if behind < message.len() {
+        return message[behind];
     }
     0
 }
 
 // The first byte of a data telegram.
-fn header(asks: bool, last: bool, number: u8) -> u8
+fn header(asks: bool, last: bool, number: usize) -> u8
     ensures { λ r. ⌜ r ≡ headerOf asks last number ⌝ }
 {
-    let n = number % 16;
+    let n = (number % 16) as u8;
     if asks {
         if last {
             return 0x10 + n;
@@ -63,17 +64,17 @@ fn header(asks: bool, last: bool, number: u8) -> u8
     0x20 + n
 }
 
-// How many bytes of a stream of size bytes a telegram takes from a place on: at most seven.
-fn piece(size: usize, at: usize) -> usize
-    ensures { λ r. ⌜ r ≡ min 7 (size - at) ⌝ }
+// How many bytes a telegram has: its first byte, and at most seven of what is left from a place on.
+fn length_from(size: usize, at: usize) -> usize
+    ensures { λ r. ⌜ r ≡ 1 + min 7 (size - at) ⌝ }
 {
     if size <= at {
-        return 0;
+        return 1;
     }
     if size - at < 7 {
-        return size - at;
+        return 1 + (size - at);
     }
-    7
+    8
 }
 
 // Whether the telegram behind `place` others of a message of len bytes asks for an Ack.
@@ -95,23 +96,24 @@ pub fn asks_at(block: u8, len: usize, place: u16) -> bool
 pub fn frame(message: &[u8], block: u8, first: u8, place: u16) -> Payload
     ensures { λ r. ⌜ r ≡ frameAt (now (message .entry)) block first place ⌝ }
 {
+    let len = message.len();
+    let size = len + 2;
     let k = place as usize;
     let at = 7 * k;
-    let len = message.len();
-    let asks = asks_at(block, len, place);
+    let number = first as usize + k;
     let last = k + 1 == frames(len);
-    let number = ((first as usize + k) % 16) as u8;
+    let asks = asks_at(block, len, place);
     Payload {
-        len: 1 + piece(len + 2, at),
+        len: length_from(size, at),
         bytes: [
             header(asks, last, number),
-            byte_at(message, at),
-            byte_at(message, at + 1),
-            byte_at(message, at + 2),
-            byte_at(message, at + 3),
-            byte_at(message, at + 4),
-            byte_at(message, at + 5),
-            byte_at(message, at + 6),
+            byte_at(message, place, 0),
+            byte_at(message, place, 1),
+            byte_at(message, place, 2),
+            byte_at(message, place, 3),
+            byte_at(message, place, 4),
+            byte_at(message, place, 5),
+            byte_at(message, place, 6),
         ],
     }
 }

@@ -1,6 +1,6 @@
 // Telegrams on a channel: the kinds, how a telegram is sorted into one, and the writers.
 ghost use mathlib.Core.Path.{_≡_};
-ghost use Rattle.telegram.specs.Kinds.{sorted, ackOf, testOf, disconnectOf, setupOf, acceptOf};
+ghost use Rattle.telegram.specs.Kinds.{badBlock, sorted, ackOf, testOf, disconnectOf, setupOf, acceptOf};
 use crate::payload::Payload;
 
 // What an A0 (connection set-up) and an A1 (connection acknowledge) carry: the block size byte and two time codes.
@@ -41,13 +41,7 @@ fn kind(s: &[u8]) -> Telegram
         return Telegram::Malformed;
     }
     let b = s[0];
-    if b / 64 == 0 {
-        if n < 2 {
-            return Telegram::Malformed;
-        }
-        if 8 < n {
-            return Telegram::Malformed;
-        }
+    if (b / 64 == 0) & (2 <= n) & (n <= 8) {
         return Telegram::Data {
             asks: b / 32 % 2 == 0,
             last: b / 16 % 2 == 1,
@@ -55,6 +49,12 @@ fn kind(s: &[u8]) -> Telegram
         };
     }
     if n == 1 {
+        if (b / 64 == 2) & (b / 16 % 2 == 1) {
+            return Telegram::Ack {
+                ready: b / 32 % 2 == 1,
+                number: b % 16,
+            };
+        }
         if b == 0xA3 {
             return Telegram::Test;
         }
@@ -64,16 +64,7 @@ fn kind(s: &[u8]) -> Telegram
         if b == 0xA8 {
             return Telegram::Disconnect;
         }
-        if b / 64 != 2 {
-            return Telegram::Malformed;
-        }
-        if b / 16 % 2 != 1 {
-            return Telegram::Malformed;
-        }
-        return Telegram::Ack {
-            ready: b / 32 % 2 == 1,
-            number: b % 16,
-        };
+        return Telegram::Malformed;
     }
     if n != 6 {
         return Telegram::Malformed;
@@ -90,6 +81,19 @@ fn kind(s: &[u8]) -> Telegram
         return Telegram::Accept(p);
     }
     Telegram::Malformed
+}
+
+// Whether a block size is none: 0 or over 15.
+pub fn bad_block(block: u8) -> bool
+    ensures { λ r. ⌜ r ≡ badBlock block ⌝ }
+{
+    if block == 0 {
+        return true;
+    }
+    if 15 < block {
+        return true;
+    }
+    false
 }
 
 pub fn write_ack(ready: bool, number: u8) -> Payload

@@ -1,4 +1,5 @@
 // Opening frames, both ways: the C0 request and the replies D0, D6, D7, D8.
+// Tests joined by `&` are all made, as in the definitions: none guards another.
 ghost use mathlib.Core.Path.{_≡_};
 ghost use Rattle.telegram.specs.Opening.{idOf, requestOf, replyOf, requestRead, replyRead};
 use crate::payload::Payload;
@@ -80,26 +81,14 @@ pub fn read_request(s: &[u8]) -> Request
     if s.len() != 7 {
         return Request::Malformed;
     }
-    if s[1] != 0xC0 {
-        return Request::Malformed;
-    }
-    if s[2] != 0x00 {
-        return Request::Malformed;
-    }
-    if s[3] != 0x10 {
-        return Request::Malformed;
-    }
     let high = s[5];
-    if 8 <= high {
-        return Request::Malformed;
+    if (s[1] == 0xC0) & (s[2] == 0x00) & (s[3] == 0x10) & (high < 8) & (s[6] == 0x01) {
+        return Request::Open {
+            unit: s[0],
+            receive: id_of(s[4], high),
+        };
     }
-    if s[6] != 0x01 {
-        return Request::Malformed;
-    }
-    Request::Open {
-        unit: s[0],
-        receive: id_of(s[4], high),
-    }
+    Request::Malformed
 }
 
 // Reads a reply against our own receive ID.
@@ -109,35 +98,18 @@ pub fn read_reply(s: &[u8], receive: u16) -> Reply
     if s.len() != 7 {
         return Reply::Malformed;
     }
-    if s[0] != 0x00 {
-        return Reply::Malformed;
-    }
+    let zero = s[0];
     let opcode = s[1];
-    if opcode == NOT_SUPPORTED {
+    if (zero == 0x00)
+        & ((opcode == NOT_SUPPORTED) | (opcode == NOT_FOR_NOW) | (opcode == NO_RESOURCES))
+    {
         return Reply::Refused(opcode);
-    }
-    if opcode == NOT_FOR_NOW {
-        return Reply::Refused(opcode);
-    }
-    if opcode == NO_RESOURCES {
-        return Reply::Refused(opcode);
-    }
-    if opcode != POSITIVE {
-        return Reply::Malformed;
     }
     let ours = s[3];
-    if 8 <= ours {
-        return Reply::Malformed;
-    }
-    if id_of(s[2], ours) != receive {
-        return Reply::Malformed;
-    }
     let high = s[5];
-    if 8 <= high {
-        return Reply::Malformed;
+    let own = id_of(s[2], ours) == receive;
+    if (zero == 0x00) & (opcode == POSITIVE) & (ours < 8) & own & (high < 8) & (s[6] == 0x01) {
+        return Reply::Positive(id_of(s[4], high));
     }
-    if s[6] != 0x01 {
-        return Reply::Malformed;
-    }
-    Reply::Positive(id_of(s[4], high))
+    Reply::Malformed
 }

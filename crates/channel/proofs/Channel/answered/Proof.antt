@@ -11,5 +11,5 @@ answered-spec =
     (tie.spec
     (λ c κs. search needs)
     (λ c κs. search needs)
-    (λ c. rw (c .restarted .ensures, ← c .before .before .number .ensures) (search branches depth 40 fits 8000))
-    (λ c. rw (← c .before .number .ensures) (search branches depth 40 fits 8000)))
+    (λ c. rw (c .restarted .ensures, ← c .before .before .before .say .ensures) (search branches depth 40 fits 8000))
+    (λ c. rw (← c .before .before .say .ensures) (search branches depth 40 fits 8000)))

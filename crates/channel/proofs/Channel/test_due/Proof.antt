@@ -1,19 +1,8 @@
 use borrow.Author.Needs.{needs}
-use Rattle.laws.proofs.Branches.{branches}
-use mathlib.Core.Path.{sym}
 use Rattle.channel.specs.Opened.{testDue}
 use Rattle.channel.proofs.Channel.test_due.Statement.{statement}
 use Rattle.channel.proofs.Channel.test_due.Tie as tie
 
 pub test-due-spec : {M : Type 1} → statement M
 unfolding testDue
-test-due-spec =
-    tie.close
-    (tie.spec
-    (λ c κs. search needs)
-    (λ c. sym (search branches depth 40 fits 8000))
-    (λ c. sym (search branches depth 40 fits 8000))
-    (λ c. sym (search branches depth 40 fits 8000))
-    (λ c. sym (search branches depth 40 fits 8000))
-    (λ c. sym (search branches depth 40 fits 8000))
-    (λ c. sym (search branches depth 40 fits 8000)))
+test-due-spec = tie.close (tie.spec (λ c κs. search needs) (λ c. rw (c .before .before .before .has-unacknowledged .ensures)))

@@ -9,8 +9,11 @@ unfolding closed
 close-spec =
     tie.close
     (tie.spec
-    (λ c. search branches depth 40 fits 8000)
     (λ c κs. search needs)
-    (λ c. rw (c .closed .ensures) (search branches depth 40 fits 8000))
+    (λ c. rw (c .gives .ensures) (search branches depth 40 fits 8000))
     (λ c κs. search needs)
-    (λ c. rw (c .leaving-on .ensures) (search branches depth 40 fits 8000)))
+    (λ c κs. search needs)
+    (λ c. rw (c .gives2 .ensures, c .before .closed .ensures) (search branches depth 40 fits 8000))
+    (λ c κs. search needs)
+    (λ c κs. search needs)
+    (λ c. rw (c .gives3 .ensures, c .before .leaving-on .ensures) (search branches depth 40 fits 8000)))

@@ -14,5 +14,6 @@ on-open-spec =
     (λ c κs. search needs)
     (λ c κs. search needs)
     (λ c κs. search needs)
+    (λ c κs. search needs)
     (λ c. search needs)
-    (λ c. (rw (c .settled .ensures, c .before .pass-on .ensures, c .before .before .before .before .before .arrive .ensures .0, c .before .before .before .before .before .before .before .behind-first .ensures, c .before .before .before .before .before .before .before .before .sort .ensures), rw (c .before .before .before .before .before .before .before .behind-first .ensures, c .before .before .before .before .before .before .before .before .sort .ensures) at (c .before .before .before .before .before .arrive .ensures .1))))
+    (λ c. (rw (c .gives .ensures, c .before .pass-on .ensures, c .before .before .settled .ensures, c .before .before .before .before .before .before .arrive .ensures .0, c .before .before .before .before .before .before .before .before .behind-first .ensures, c .before .before .before .before .before .before .before .before .before .sort .ensures), rw (c .before .before .before .before .before .before .before .before .behind-first .ensures, c .before .before .before .before .before .before .before .before .before .sort .ensures) at (c .before .before .before .before .before .before .arrive .ensures .1))))

@@ -9,9 +9,11 @@ unfolding opening
 open-spec =
     tie.close
     (tie.spec
-    (λ c. search branches depth 40 fits 8000)
     (λ c κs. search needs)
-    (λ c. rw (← c .before .in-range .ensures) (search branches depth 40 fits 8000))
+    (λ c. rw (c .gives .ensures) (search branches depth 40 fits 8000))
     (λ c κs. search needs)
     (λ c κs. search needs)
-    (λ c. rw (c .no-channel .ensures, c .before .new-attempt .ensures, ← c .before .before .before .in-range .ensures) (search branches depth 40 fits 8000)))
+    (λ c. rw (c .gives2 .ensures, ← c .before .before .in-range .ensures) (search branches depth 40 fits 8000))
+    (λ c κs. search needs)
+    (λ c κs. search needs)
+    (λ c. rw (c .gives3 .ensures, c .before .requesting .ensures, ← c .before .before .before .in-range .ensures) (search branches depth 40 fits 8000)))

@@ -1,5 +1,5 @@
 -- `Connection::take` meets its contract. Its code is walked in `Proof/Walk.antt`; here stands what its two calls leave, and how that is the result. All that the proof knows of `take_step` and of `shown` is that each meets its contract.
--- The record and a `&[u8]` are Copy: what they own is had again for the calls, and kept for the exit. Of what the step owns, answer and record go into the result, beside the slice that `shown` gave.
+-- The record and a `&[u8]` are Copy: what they own is had again for the calls, and kept for the exit. Of what the step owns, what is told and the record go into the result, beside the slice that `shown` gave.
 mod Walk
 use Prim.Native.Nat.{ℕ, _<_, _^_}
 use mathlib.Core.Path.{_≡_, refl, ap, subst, _∙_}
@@ -42,8 +42,8 @@ use Rattle.connection.specs.Calls.{takenBy, takes, looked}
 use Rattle.connection.specs.declared.Connection.{Connection}
 use Rattle.connection.specs.declared.TakeStep.{TakeStep}
 use Rattle.connection.specs.declared.Taken.{Taken}
-use Rattle.connection.proofs.Answer as N
-use Rattle.connection.proofs.Answer.Laws as N′
+use Rattle.connection.proofs.Told as N
+use Rattle.connection.proofs.Told.Laws as N′
 use Rattle.connection.proofs.Connection as R
 use Rattle.connection.proofs.Connection.Laws as R′
 use Rattle.connection.proofs.TakeStep as S
@@ -67,14 +67,14 @@ use Rattle.connection.proofs.Connection.take.Proof.Walk.{Known, stepped
 abbrev stayed : Stays (taking.ended .signature .params) (taking.ended .kept)
 stayed = (stay-none (λ _. R.the-row) yes, (stay-none-slice (0 ∷ []) tt (plain (λ _. u8)) yes, tt))
 
--- what is known of the step that `take_step` returns, and of the machine values of its answer and its record
+-- what is known of the step that `take_step` returns, and of the machine values of what it tells and of its record
 record Stepping (c : Connection) (n : ℕ) : Type 0 where
   step : TakeStep
   answer : Val
   left : Val
   is : step ≡ takenBy c n
   fits : step .len < 2 ^ 64
-  answer-is : Is N.the-row (step .answer) (answer ∷ [])
+  answer-is : Is N.the-row (step .told) (answer ∷ [])
   left-is : Is R.the-row (step .connection) (left ∷ [])
 
 -- the buffer's type
@@ -119,9 +119,9 @@ module _ {M : Type 1} (𝓤 : URA M) (H : Heap 𝓤) (A : Atoms 𝓤) (W : Given
   abbrev Own-s : Fml
   Own-s = B κ .own s (v ∷ [])
 
-  -- what a step's answer and record own
+  -- what a step tells and its record own
   abbrev Own-parts : Stepping c n → Fml
-  Own-parts x = fsep (N.the-row .own (x .step .answer) (x .answer ∷ [])) (R.the-row .own (x .step .connection) (x .left ∷ []))
+  Own-parts x = fsep (N.the-row .own (x .step .told) (x .answer ∷ [])) (R.the-row .own (x .step .connection) (x .left ∷ []))
 
   -- what is kept over each call, and had after it
   abbrev Keep : SProp 𝓤
@@ -160,7 +160,7 @@ module _ {M : Type 1} (𝓤 : URA M) (H : Heap 𝓤) (A : Atoms 𝓤) (W : Given
       use1 W (later (some (λ (r : TakeStep). (‵ ftrue ⊛ ‵ (S.the-row .own r (u ∷ []))) ⊛ raw (ensured 𝓤 H A step.ended (step.clauses 𝓤 H A mem run) tt (c, (n, tt)) tt r)))) (id⊢ 𝓤 _) $ await ! tt $ pick ! (λ r. split ! $ move ! (1 ∷ []) $
       use1 W (raw (fact 𝓤 (r ≡ takenBy c n))) (exE 𝓤 _ (λ ws. snd∗ 𝓤 (sem 𝓤 H A (lasts step.ended tt (c, (n, tt)) ws)) (fact 𝓤 (r ≡ takenBy c n)))) $ heard ! (r ≡ takenBy c n) (λ e. split ! $ drop ! $
       peeks ! S.the-row (Is S.the-row) (shows 𝓤 H A S.the-row) r (u ∷ []) (λ is.
-      let vr : Values (S.the-type .parts) = (r .answer, (r .len, (r .connection, tt))) in
+      let vr : Values (S.the-type .parts) = (r .told, (r .len, (r .connection, tt))) in
       use1 W (given (u ∷ [] ≡ vstruct (spelled (S.the-type .parts) S′.the-laws vr) ∷ []) (‵ (all-own (S.the-type .parts) S′.the-laws vr))) (own-open 𝓤 H A W S.the-type S′.the-laws vr u) $ learn ! (λ d.
       let are = LL.owed S.the-type S′.the-laws r _ is in
       let to = S.the-type .to r in
@@ -202,11 +202,11 @@ module _ {M : Type 1} (𝓤 : URA M) (H : Heap 𝓤) (A : Atoms 𝓤) (W : Given
     -- ---- the result
     module _ (y : Showing κ s len) where
       abbrev result : Taken
-      result = record { answer = x .step .answer; connection = x .step .connection; message = y .message }
+      result = record { told = x .step .told; connection = x .step .connection; message = y .message }
 
       result-is : looked result ≡ takes c s
       result-is = λ i. record {
-        answer = x .is i .answer;
+        told = x .is i .told;
         connection = x .is i .connection;
         place = y .place i;
         message = (y .shown ∙ ap (λ (t : TakeStep). take (t .len) (now s)) (x .is)) i;
@@ -217,7 +217,7 @@ module _ {M : Type 1} (𝓤 : URA M) (H : Heap 𝓤) (A : Atoms 𝓤) (W : Given
       vals = (x .answer ∷ [], (x .left ∷ [], (slice-vals (y .message), tt)))
 
       abbrev had : List Val × (List Val × (List Val × Unit {0})) → Fml
-      had vss = fsep (N.the-row .own (x .step .answer) (vss .0)) (fsep (R.the-row .own (x .step .connection) (vss .1 .0)) (fsep (B κ .own (y .message) (vss .1 .1 .0)) ftrue))
+      had vss = fsep (N.the-row .own (x .step .told) (vss .0)) (fsep (R.the-row .own (x .step .connection) (vss .1 .0)) (fsep (B κ .own (y .message) (vss .1 .1 .0)) ftrue))
 
       abbrev vr : Val
       vr = made (x .answer) (x .left) (sliceVal (y .message .ptr) (length (now (y .message))))
@@ -227,7 +227,7 @@ module _ {M : Type 1} (𝓤 : URA M) (H : Heap 𝓤) (A : Atoms 𝓤) (W : Given
           qed W (‵ (B κ .own (y .message) (slice-vals (y .message))) ∷ (‵ (flft κ q) ⊛ ‵ ftrue) ∷ ‵ (Own-parts x) ∷ ‵ Own-c ∷ ‵ Own-s ∷ []) ∵
           suffices ! _ (ends-at 𝓤 H A taking.ended stayed (taking.clauses 𝓤 H A mem run) W (((κ, tt), (q, tt), tt, (c, (s, tt)), at), tt) vr result (tt, (tt, tt)) (tt, (tt, tt))) $ says ! result-is $
           move ! (1 ∷ []) $ frame ! $ nothing ! $ move ! (4 ∷ 0 ∷ []) $ fjoin ! $ move ! (3 ∷ 0 ∷ []) $ fjoin ! $ frame ! $
-          -- [what the message owns; what answer and record own]
+          -- [what the message owns; what is told and the record own]
           nothing ! $ move ! (1 ∷ 0 ∷ []) $ fjoin ! $ move ! (1 ∷ []) $ fsplit ! $ move ! (1 ∷ 2 ∷ []) $ fjoin ! $ move ! (1 ∷ 0 ∷ []) $ fjoin ! $
           by ! (makes 𝓤 H A W (N.the-row ∷ R.the-row ∷ B κ ∷ []) had vals)
 

@@ -1,4 +1,5 @@
 use mathlib.Core.Path.{sym}
+use borrow.Author.Needs.{needs}
 use Rattle.laws.proofs.Branches.{branches}
 use Rattle.settings.specs.Settings.{allowed}
 use Rattle.settings.proofs.Settings.in_range.Statement.{statement}
@@ -11,10 +12,10 @@ in-range-spec =
     (tie.spec
     (λ c. sym (search branches depth 40 fits 8000))
     (λ c. sym (search branches depth 40 fits 8000))
-    (λ c. sym (search branches depth 40 fits 8000))
-    (λ c. sym (search branches depth 40 fits 8000))
-    (λ c. sym (search branches depth 40 fits 8000))
-    (λ c. sym (search branches depth 40 fits 8000))
-    (λ c. sym (search branches depth 40 fits 8000))
-    (λ c. sym (search branches depth 40 fits 8000))
-    (λ c. sym (search branches depth 40 fits 8000)))
+    (λ c κs. search needs)
+    (λ c. rw (← c .before .bad-block .ensures) (sym (search branches depth 40 fits 8000)))
+    (λ c. rw (← c .before .before .before .bad-block .ensures) (sym (search branches depth 40 fits 8000)))
+    (λ c. rw (← c .before .before .before .before .before .bad-block .ensures) (sym (search branches depth 40 fits 8000)))
+    (λ c. rw (← c .before .before .before .before .before .before .before .bad-block .ensures) (sym (search branches depth 40 fits 8000)))
+    (λ c. rw (← c .before .before .before .before .before .before .before .before .before .bad-block .ensures) (sym (search branches depth 40 fits 8000)))
+    (λ c. rw (← c .before .before .before .before .before .before .before .before .before .bad-block .ensures) (sym (search branches depth 40 fits 8000))))

@@ -11,6 +11,8 @@ byte-at-spec =
     tie.close
     (tie.spec
     (λ c. search needs)
+    (λ c. search needs)
+    (λ c. search needs)
     (λ c. unfold streamOf in rw (c .if1 .taken))
     (λ c. search needs)
     (λ c. unfold streamOf in rw (c .if2 .taken))

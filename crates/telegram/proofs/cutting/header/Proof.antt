@@ -10,6 +10,7 @@ header-spec =
     tie.close
     (tie.spec
     (λ c. search needs)
+    (λ c. search needs)
     (λ c. rw (c .before .if1 .taken, c .if2 .taken))
     (λ c. rw (c .before .if1 .taken, c .if2 .left) (omega arith))
     (λ c. search needs)

@@ -1,5 +1,5 @@
 use borrow.Author.Needs.{needs}
-use Rattle.laws.proofs.Branches.{branches}
+use borrow.Author.Tests.{ne-eqb}
 use Rattle.telegram.specs.Opening.{replyRead}
 use Rattle.telegram.proofs.opening.read_reply.Statement.{statement}
 use Rattle.telegram.proofs.opening.read_reply.Tie as tie
@@ -9,23 +9,16 @@ unfolding replyRead
 read-reply-spec =
     tie.close
     (tie.spec
-    (λ c. search branches depth 40 fits 8000)
+    (λ c. rw (ne-eqb _ _ (c .if1 .taken)))
     (λ c. search needs)
-    (λ c. search branches depth 40 fits 8000)
     (λ c. search needs)
-    (λ c. search branches depth 40 fits 8000)
-    (λ c. search branches depth 40 fits 8000)
-    (λ c. search branches depth 40 fits 8000)
-    (λ c. search branches depth 40 fits 8000)
+    (λ c. rw (c .before .before .before .if1 .left, c .if2 .taken))
     (λ c. search needs)
-    (λ c. search branches depth 40 fits 8000)
     (λ c. search needs)
-    (λ c κs. search needs)
-    (λ c. let h = rw (c .before .id-of .ensures) at (c .if8 .taken) in search branches depth 40 fits 8000)
     (λ c. search needs)
-    (λ c. search branches depth 40 fits 8000)
+    (λ c κs. tt)
     (λ c. search needs)
-    (λ c. search branches depth 40 fits 8000)
     (λ c. search needs)
-    (λ c κs. search needs)
-    (λ c. let h = rw (c .before .before .before .before .before .before .before .id-of .ensures) at (c .before .before .before .before .before .before .if8 .left) in rw (c .id-of2 .ensures) (search branches depth 40 fits 8000)))
+    (λ c κs. tt)
+    (λ c. let d = c .before .before in rw (c .id-of2 .ensures, d .before .before .before .before .before .before .before .before .before .if1 .left, d .before .before .before .before .before .before .if2 .left, ← d .before .before .id-of .ensures, d .if3 .taken))
+    (λ c. rw (c .before .before .before .before .before .before .before .before .before .if1 .left, c .before .before .before .before .before .before .if2 .left, ← c .before .before .id-of .ensures, c .if3 .left)))

@@ -1,5 +1,5 @@
 use borrow.Author.Needs.{needs}
-use Rattle.laws.proofs.Branches.{branches}
+use borrow.Author.Tests.{ne-eqb}
 use Rattle.telegram.specs.Opening.{requestRead}
 use Rattle.telegram.proofs.opening.read_request.Statement.{statement}
 use Rattle.telegram.proofs.opening.read_request.Tie as tie
@@ -9,18 +9,14 @@ unfolding requestRead
 read-request-spec =
     tie.close
     (tie.spec
-    (λ c. search branches depth 40 fits 8000)
-    (λ c. search needs)
-    (λ c. search branches depth 40 fits 8000)
-    (λ c. search needs)
-    (λ c. search branches depth 40 fits 8000)
-    (λ c. search needs)
-    (λ c. search branches depth 40 fits 8000)
-    (λ c. search needs)
-    (λ c. search branches depth 40 fits 8000)
-    (λ c. search needs)
-    (λ c. search branches depth 40 fits 8000)
+    (λ c. rw (ne-eqb _ _ (c .if1 .taken)))
     (λ c. search needs)
     (λ c. search needs)
-    (λ c κs. search needs)
-    (λ c. rw (c .id-of .ensures) (search branches depth 40 fits 8000)))
+    (λ c. search needs)
+    (λ c. search needs)
+    (λ c. search needs)
+    (λ c. search needs)
+    (λ c. search needs)
+    (λ c κs. tt)
+    (λ c. let d = c .before .before .before in rw (c .id-of .ensures, d .before .before .before .before .before .before .if1 .left, d .if2 .taken))
+    (λ c. rw (c .before .before .before .before .before .before .if1 .left, c .if2 .left)))

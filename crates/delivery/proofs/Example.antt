@@ -1,5 +1,5 @@
 -- One list of calls that meets every hypothesis of demand 3's second half: two messages, the first of eighteen frames, in blocks of four, one repeat allowed;
--- a data frame, an Ack and frames that had arrived and stayed are lost on the way. `example` of proofs/NotEmpty.antt proves it.
+-- a data frame, an Ack and frames that had arrived and stayed are lost on the way. `example` of NotEmpty.antt proves it.
 use Prim.Native.Nat.{ℕ, zero, suc, _+_}
 use mathlib.Core.Bool.{true}
 use mathlib.Core.List.{List, [], _∷_, _++_}

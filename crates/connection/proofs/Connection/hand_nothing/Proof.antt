@@ -1,0 +1,12 @@
+use Rattle.laws.proofs.Branches.{branches}
+use borrow.Author.Needs.{needs}
+use Rattle.connection.proofs.Connection.hand_nothing.Statement.{statement}
+use Rattle.connection.proofs.Connection.hand_nothing.Tie as tie
+
+pub hand-nothing-spec : {M : Type 1} → statement M
+hand-nothing-spec =
+    tie.close
+    (tie.spec
+    (λ c κs. search needs)
+    (λ c κs. search needs)
+    (λ c. rw (c .no-frame .ensures, c .before .tell .ensures) (search branches depth 40 fits 8000)))

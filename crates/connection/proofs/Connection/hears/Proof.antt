@@ -1,0 +1,18 @@
+use Rattle.laws.proofs.Branches.{branches}
+use mathlib.Core.Path.{sym}
+use borrow.Author.Tests.{ne-eqb}
+use Rattle.connection.specs.Record.{listensOn}
+use borrow.Author.Needs.{needs}
+use Rattle.connection.proofs.Connection.hears.Statement.{statement}
+use Rattle.connection.proofs.Connection.hears.Tie as tie
+
+pub hears-spec : {M : Type 1} → statement M
+unfolding listensOn
+hears-spec =
+    tie.close
+    (tie.spec
+    (λ c. sym (rw (c .if1 .taken)))
+    (λ c. search needs)
+    (λ c. search needs)
+    (λ c. sym (rw (ne-eqb _ _ (c .before .if1 .left), c .if2 .taken)))
+    (λ c. sym (rw (ne-eqb _ _ (c .before .if1 .left), ne-eqb _ _ (c .if2 .left)))))
