@@ -7,11 +7,11 @@ use lib.Dec.{ltb, leb, eqb}
 use denote.Ref.{RefT, now}
 use Rattle.laws.specs.If.{if_then_else_}
 use Rattle.telegram.specs.Outgoing.{written}
-use Rattle.telegram.specs.Opening.{requestOf, replyRead}
+use Rattle.opening.specs.Opening.{requestOf, replyRead}
 use Rattle.telegram.specs.Kinds.{badBlock, sorted, setupOf, disconnectOf}
 use Rattle.telegram.specs.declared.payload.Payload.{Payload}
-use Rattle.telegram.specs.declared.opening.Reply.{Reply}
-use Rattle.telegram.specs.declared.opening.Reply.the-variants.{Positive, Refused as RefusedBy, Malformed as NoReply}
+use Rattle.opening.specs.declared.Reply.{Reply}
+use Rattle.opening.specs.declared.Reply.the-variants.{Positive, Refused as RefusedBy, Malformed as NoReply}
 use Rattle.telegram.specs.declared.kinds.Parameters.{Parameters as Fields}
 use Rattle.telegram.specs.declared.kinds.Telegram.{Telegram}
 use Rattle.telegram.specs.declared.kinds.Telegram.the-variants.{Data, Ack, Test, Break, Disconnect, Setup, Accept, Malformed as NoTelegram}

@@ -11,10 +11,11 @@ use borrow.Author.Tests.{leb-true, ltb-false, eqb-false, not-true, eq-eqb, ne-eq
 use Rattle.laws.proofs.Cases.{both, or-first, or-second}
 use Rattle.telegram.specs.Time.{tenthsOf}
 use Rattle.telegram.specs.Outgoing.{sent}
-use Rattle.telegram.specs.Opening.{requestOf, replyOf}
+use Rattle.opening.specs.Opening.{requestOf, replyOf}
 use Rattle.telegram.specs.Kinds.{badBlock, setupOf, acceptOf}
 use Rattle.telegram.specs.declared.kinds.Parameters.{Parameters as Fields}
-use Rattle.telegram.proofs.RoundTrip.{positive-read, accept-sorted}
+use Rattle.telegram.proofs.RoundTrip.{accept-sorted}
+use Rattle.opening.proofs.RoundTrip.{positive-read}
 use Rattle.settings.specs.Settings.{allowed}
 use Rattle.settings.specs.declared.Settings.{Settings}
 use Rattle.connection.specs.declared.Connection.{Connection}

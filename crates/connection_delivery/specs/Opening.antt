@@ -4,7 +4,7 @@ use mathlib.Core.List.{List, [], _∷_, _++_}
 use lib.ListN.{length}
 use Rattle.laws.specs.If.{if_then_else_}
 use Rattle.telegram.specs.Outgoing.{sent}
-use Rattle.telegram.specs.Opening.{replyOf}
+use Rattle.opening.specs.Opening.{replyOf}
 use Rattle.telegram.specs.Kinds.{acceptOf}
 use Rattle.telegram.specs.declared.kinds.Parameters.{Parameters as Fields}
 use Rattle.settings.specs.declared.Settings.{Settings}

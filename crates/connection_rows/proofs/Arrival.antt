@@ -9,9 +9,9 @@ use lib.Dec.{ltb, leb, eqb}
 use Rattle.laws.specs.If.{if_then_else_}
 use Rattle.laws.proofs.Cases.{by, by-not, Makes, either}
 use Rattle.telegram.specs.Kinds.{badBlock, fields, sorted}
-use Rattle.telegram.specs.Opening.{replyRead}
+use Rattle.opening.specs.Opening.{replyRead}
 use Rattle.telegram.specs.Cutting.{declaredOf, framesOf}
-use Rattle.telegram.specs.declared.opening.Reply.{Reply}
+use Rattle.opening.specs.declared.Reply.{Reply}
 use Rattle.telegram.specs.declared.kinds.Telegram.{Telegram}
 use Rattle.telegram.specs.declared.kinds.Telegram.the-variants.{Data, Ack, Accept}
 use Rattle.sender.specs.Sending.{onAck as onSenderAck, heard}

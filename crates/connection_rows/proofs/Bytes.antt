@@ -9,10 +9,10 @@ use lib.Dec.{ltb, leb, eqb}
 use borrow.Author.Tests.{leb-true, eqb-true, eqb-false, lt-ltb, le-ltb, ne-eqb}
 use Rattle.laws.proofs.Branches.{and-off, and-off′}
 use Rattle.laws.proofs.Cases.{by, and-first, and-second}
-use Rattle.telegram.specs.Opening.{idOf, replyRead}
+use Rattle.opening.specs.Opening.{idOf, replyRead}
 use Rattle.telegram.specs.Kinds.{top, bit4, fields, kindOf}
-use Rattle.telegram.specs.declared.opening.Reply.{Reply}
-use Rattle.telegram.specs.declared.opening.Reply.the-variants.{Positive, Refused, Malformed as NoReply}
+use Rattle.opening.specs.declared.Reply.{Reply}
+use Rattle.opening.specs.declared.Reply.the-variants.{Positive, Refused, Malformed as NoReply}
 use Rattle.telegram.specs.declared.kinds.Telegram.{Telegram}
 use Rattle.telegram.specs.declared.kinds.Telegram.the-variants.{Data, Ack, Test, Break, Disconnect, Setup, Accept, Malformed}
 use Rattle.connection_rows.specs.Rows.{isData, asksAck, isLast, numberIn, isAck, isReady, isTest, isBreak, isDisconnect, isSetup, isAccept, isTelegram, isRefusal, isPositive}

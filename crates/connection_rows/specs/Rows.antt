@@ -7,7 +7,7 @@ use lib.ListN.{length, drop, getD}
 use lib.Dec.{ltb, leb, eqb}
 use Rattle.laws.specs.If.{if_then_else_}
 use Rattle.telegram.specs.Cutting.{declaredOf, framesOf, frameAt}
-use Rattle.telegram.specs.Opening.{clear, idOf, refusal, requestOf}
+use Rattle.opening.specs.Opening.{clear, idOf, refusal, requestOf}
 use Rattle.telegram.specs.declared.payload.Payload.{Payload}
 use Rattle.telegram.specs.Kinds.{top, bit5, bit4, number, fields, ackOf, testOf, disconnectOf, setupOf, acceptOf}
 use Rattle.settings.specs.Settings.{allowed}

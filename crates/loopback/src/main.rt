@@ -10,11 +10,11 @@ ghost use Prim.Native.Nat.{_≤_};
 use connection::Connection;
 use connection::Frame;
 use connection::shown;
+use opening::POSITIVE;
+use opening::write_reply;
 use settings::Settings;
 use telegram::kinds::Parameters;
 use telegram::kinds::write_accept;
-use telegram::opening::POSITIVE;
-use telegram::opening::write_reply;
 use telegram::payload::Payload;
 
 // The IDs that the two ends receive on.

@@ -1,4 +1,3 @@
 pub mod Bytes
 pub mod RoundTrip
 pub mod Cut
-pub mod Worked

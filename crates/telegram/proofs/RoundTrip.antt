@@ -1,6 +1,6 @@
 -- Reading what is written gives it back, for every kind and every value of its fields; and how long it is.
 use Prim.Native.Nat.{ℕ, suc, _+_, _-_, _*_, min, _/_, _%_, _≤_, _<_}
-use native.Mathlib.Nat.{mod-lt, mod-eq-of-lt, div-eq-of-lt}
+use native.Mathlib.Nat.{mod-eq-of-lt, div-eq-of-lt}
 use native.Mathlib.Omega.{arith}
 use mathlib.Core.Bool.{Bool, true, false}
 use mathlib.Core.List.{List, [], _∷_}
@@ -8,13 +8,10 @@ use mathlib.Core.Path.{_≡_, refl, ap, _∙_}
 use lib.Dec.{eqb}
 use lib.ListN.{length, take, drop, getD, replicate, length-append, length-take, length-drop}
 use lib.Seq.{take-take, take-append-seam}
-use borrow.Author.Tests.{lt-ltb, le-leb, eq-eqb}
+use borrow.Author.Tests.{le-leb}
 use Rattle.telegram.specs.Outgoing.{written, sent}
-use Rattle.telegram.specs.Opening.{lowOf, highOf, idOf, clear, requestOf, replyOf, requestRead, replyRead, refusal}
 use Rattle.telegram.specs.Kinds.{kindOf, sorted, ackOf, testOf, disconnectOf, setupOf, acceptOf}
 use Rattle.telegram.specs.Cutting.{declaredOf, streamOf, framesOf, headerOf, lastAt, asksAt, frameAt}
-use Rattle.telegram.specs.declared.opening.Reply.the-variants.{Positive, Refused}
-use Rattle.telegram.specs.declared.opening.Request.the-variants.{Open}
 use Rattle.telegram.specs.declared.kinds.Parameters.{Parameters}
 use Rattle.telegram.specs.declared.kinds.Telegram.the-variants.{Data, Ack, Test, Disconnect, Setup, Accept}
 
@@ -27,35 +24,6 @@ written-sent s h = take-take (length s) 8 _ h ∙ take-append-seam s (replicate 
 -- whatever is written, the eight bytes are eight
 pub written-bytes : (s : List ℕ) → length ((written s) .bytes) ≡ 8
 written-bytes s = simp (length-take, length-append) (omega arith)
-
--- the opening
-
--- an ID's high byte has no bit beside the ID's
-high-clear : (i : ℕ) → clear (highOf i) ≡ true
-high-clear i = lt-ltb _ _ (mod-lt (i / 256) (omega arith))
-
--- an ID of eleven bits is that of its two bytes
-id-joined : (i : ℕ) → i < 2048 → idOf (lowOf i) (highOf i) ≡ i
-id-joined i h = let e : i / 256 % 8 ≡ i / 256 = mod-eq-of-lt (omega arith) in omega arith
-
--- a request, read, names the unit and the receive ID that it was written for
-pub request-read : (u r : ℕ) → r < 2048 → requestRead (sent (requestOf u r)) ≡ Open u r
-unfolding requestRead
-request-read u r h = rw (high-clear r) (ap (Open u) (id-joined r h))
-
--- a positive reply, read by the end that asked, names the transmit ID that it was written for
-pub positive-read : (r t : ℕ) → r < 2048 → t < 2048 → replyRead (sent (replyOf 0xD0 r t)) r ≡ Positive t
-unfolding replyRead
-positive-read r t h k = rw (high-clear r, eq-eqb _ _ (id-joined r h), high-clear t) (ap Positive (id-joined t k))
-
--- a refusal, read, names its opcode, whatever IDs stand in it and whoever reads it
-pub refused-read : (op r t own : ℕ) → refusal op ≡ true → replyRead (sent (replyOf op r t)) own ≡ Refused op
-unfolding replyRead
-refused-read op r t own h = rw h
-
--- requests and replies have seven bytes
-pub opening-length : (u r op t : ℕ) → (length (sent (requestOf u r)) ≡ 7) × (length (sent (replyOf op r t)) ≡ 7)
-opening-length u r op t = (refl, refl)
 
 -- the kinds
 

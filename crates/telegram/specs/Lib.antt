@@ -1,7 +1,5 @@
 pub mod Time
 pub mod Outgoing
-pub mod Opening
 pub mod Kinds
 pub mod Cutting
 pub mod Published
-pub mod Worked

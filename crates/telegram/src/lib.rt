@@ -4,6 +4,5 @@
 // Every writer gives a `Payload`: a length and eight bytes, zero behind the length.
 pub mod cutting;
 pub mod kinds;
-pub mod opening;
 pub mod payload;
 pub mod time;

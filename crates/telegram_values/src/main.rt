@@ -13,14 +13,13 @@
 //     z  the same of 1,024 zeros
 ghost use Prim.Native.Nat.{_<_};
 ghost use Rattle.io.specs.Counts.{Counts};
+use opening::Reply;
+use opening::Request;
 use telegram::cutting;
 use telegram::kinds;
 use telegram::kinds::Parameters;
 use telegram::kinds::Sorted;
 use telegram::kinds::Telegram;
-use telegram::opening;
-use telegram::opening::Reply;
-use telegram::opening::Request;
 use telegram::payload::Payload;
 use telegram::time;
 

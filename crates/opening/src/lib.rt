@@ -1,8 +1,8 @@
 // Opening frames, both ways: the C0 request and the replies D0, D6, D7, D8.
 // Tests joined by `&` are all made, as in the definitions: none guards another.
 ghost use mathlib.Core.Path.{_≡_};
-ghost use Rattle.telegram.specs.Opening.{idOf, requestOf, replyOf, requestRead, replyRead};
-use crate::payload::Payload;
+ghost use Rattle.opening.specs.Opening.{idOf, requestOf, replyOf, requestRead, replyRead};
+use telegram::payload::Payload;
 
 // The opcode of the positive reply, and of the three negative ones.
 pub const POSITIVE: u8 = 0xD0;

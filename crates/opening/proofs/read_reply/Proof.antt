@@ -1,8 +1,8 @@
 use borrow.Author.Needs.{needs}
 use borrow.Author.Tests.{ne-eqb}
-use Rattle.telegram.specs.Opening.{replyRead}
-use Rattle.telegram.proofs.opening.read_reply.Statement.{statement}
-use Rattle.telegram.proofs.opening.read_reply.Tie as tie
+use Rattle.opening.specs.Opening.{replyRead}
+use Rattle.opening.proofs.read_reply.Statement.{statement}
+use Rattle.opening.proofs.read_reply.Tie as tie
 
 pub read-reply-spec : {M : Type 1} → statement M
 unfolding replyRead

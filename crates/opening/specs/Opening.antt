@@ -5,12 +5,12 @@ use mathlib.Core.List.{List, [], _∷_}
 use lib.ListN.{length, getD}
 use lib.Dec.{ltb, eqb}
 use Rattle.laws.specs.If.{if_then_else_}
 use Rattle.telegram.specs.Outgoing.{written}
 use Rattle.telegram.specs.declared.payload.Payload.{Payload}
-use Rattle.telegram.specs.declared.opening.Reply.{Reply}
-use Rattle.telegram.specs.declared.opening.Reply.the-variants.{Positive, Refused, Malformed as NoReply}
-use Rattle.telegram.specs.declared.opening.Request.{Request}
-use Rattle.telegram.specs.declared.opening.Request.the-variants.{Open, Malformed as NoRequest}
+use Rattle.opening.specs.declared.Reply.{Reply}
+use Rattle.opening.specs.declared.Reply.the-variants.{Positive, Refused, Malformed as NoReply}
+use Rattle.opening.specs.declared.Request.{Request}
+use Rattle.opening.specs.declared.Request.the-variants.{Open, Malformed as NoRequest}
 
 -- an ID's low byte
 abbrev pub lowOf : ℕ → ℕ

@@ -1,8 +1,8 @@
 use borrow.Author.Needs.{needs}
 use borrow.Author.Tests.{ne-eqb}
-use Rattle.telegram.specs.Opening.{requestRead}
-use Rattle.telegram.proofs.opening.read_request.Statement.{statement}
-use Rattle.telegram.proofs.opening.read_request.Tie as tie
+use Rattle.opening.specs.Opening.{requestRead}
+use Rattle.opening.proofs.read_request.Statement.{statement}
+use Rattle.opening.proofs.read_request.Tie as tie
 
 pub read-request-spec : {M : Type 1} → statement M
 unfolding requestRead

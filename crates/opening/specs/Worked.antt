@@ -1,12 +1,13 @@
 -- 01's worked values: the starred rows of "The exchange of source 004", and the seven of "Time codes"; `worked` of proofs/Worked.antt proves them.
+-- 01 wants one list of them. It stands in the lowest crate that has every writer of the rows: the C0 request is written here, the rest in telegram.
 use Prim.Native.Nat.{ℕ}
 use mathlib.Core.Bool.{true}
 use mathlib.Core.List.{List, [], _∷_}
 use Rattle.telegram.specs.Time.{tenthsOf}
 use Rattle.telegram.specs.Outgoing.{sent}
-use Rattle.telegram.specs.Opening.{requestOf}
+use Rattle.opening.specs.Opening.{requestOf}
 use Rattle.telegram.specs.Kinds.{setupOf, ackOf, disconnectOf}
 use Rattle.telegram.specs.Cutting.{frameAt}
 
 -- what the definitions give, and what 01 prints
 abbrev pub rows : List (List ℕ × List ℕ)
