@@ -1,24 +1,19 @@
 // An open channel: both halves, the tests that keep it alive, and what is handed over first. The same at either end.
 //
-// It takes telegrams already sorted and gives payloads: it knows no CAN identifier, no padding and no opening.
-// Where the channel is lost (`UsedUp`) or the peer leaves (`Disconnected`) the answer says so, for the record above to close.
+// It gives payloads and knows no CAN identifier, no padding and no opening; what a telegram that arrives does is said in
+// `arrival`. Where the channel is lost (`UsedUp`) or the peer leaves (`Disconnected`) the answer says so, for the record
+// above to close.
 ghost use mathlib.Core.Path.{_≡_};
-ghost use lib.ListN.{length};
 ghost use Rattle.telegram.specs.Cutting.{longest};
 ghost use Rattle.channel.specs.Numbers.{plain, said};
-ghost use Rattle.channel.specs.Opened.{fresh, restarted, answered, dataAnswer, ackAnswer, offerAnswer, onData, onAck, onTest, onBreak, onAccept, arrived, bufferedBy, waitEnds, later, repeatsUsedUp, went, elapsed, testDue, handOver, handNothing, handAccept, handTest, handAck, handData, due, sent};
+ghost use Rattle.channel.specs.Opened.{fresh, restarted, offerAnswer, waitEnds, later, repeatsUsedUp, went, elapsed, testDue, handOver, handNothing, handAccept, handTest, handAck, handData, due, sent};
 use receiver::Cause;
-use receiver::Receipt;
 use receiver::Receiver;
 use sender::Handing;
-use sender::Hearing;
 use sender::Offer;
 use sender::Passing;
 use sender::Sender;
 use sender::Terms;
-use telegram::kinds::Sorted;
-use telegram::kinds::Telegram;
-use telegram::kinds::bad_block;
 use telegram::kinds::write_accept;
 use telegram::kinds::write_ack;
 use telegram::kinds::write_test;
@@ -141,35 +136,6 @@ pub fn say(answer: Answer) -> Said
     }
 }
 
-fn data_answer(note: Receipt) -> Answer
-    ensures { λ r. ⌜ r ≡ dataAnswer note ⌝ }
-{
-    match note {
-        Receipt::Used => Answer::Good,
-        Receipt::Complete => Answer::Good,
-        Receipt::ThrownAway => Answer::Good,
-        Receipt::OutOfPlace(_) => Answer::NoChange,
-        Receipt::Untaken => Answer::Busy,
-        Receipt::ShortFirst => Answer::ShortBuffer,
-        Receipt::ShortLater => Answer::ShortBuffer,
-        Receipt::Broken(cause) => Answer::Broken(cause),
-        Receipt::NoData => Answer::NotDue,
-    }
-}
-
-fn ack_answer(note: Hearing) -> Answer
-    ensures { λ r. ⌜ r ≡ ackAnswer note ⌝ }
-{
-    match note {
-        Hearing::Part => Answer::Good,
-        Hearing::Done => Answer::Done,
-        Hearing::Held => Answer::Good,
-        Hearing::Nothing => Answer::NoChange,
-        Hearing::UsedUp => Answer::UsedUp,
-        Hearing::NoAck => Answer::NotDue,
-    }
-}
-
 fn offer_answer(note: Offer) -> Answer
     ensures { λ r. ⌜ r ≡ offerAnswer note ⌝ }
 {
@@ -232,120 +198,12 @@ impl Channel {
     }
 
     // The interval starts again.
-    fn restarted(mut self) -> Channel
+    pub fn restarted(mut self) -> Channel
         ensures { λ r. ⌜ r ≡ restarted self ⌝ }
     {
         let interval = self.parameters.interval;
         self.tests.interval = interval;
         self
-    }
-
-    // What an arrival leaves.
-    fn answered(self, answer: Answer) -> Answered
-        ensures { λ r. ⌜ r ≡ answered answer self ⌝ }
-    {
-        if say(answer).number == 0 {
-            return Answered {
-                answer,
-                channel: self.restarted(),
-            };
-        }
-        Answered {
-            answer,
-            channel: self,
-        }
-    }
-
-    // A sorted telegram arrives, with the bytes behind its first and the lent buffer.
-    pub fn arrive(self, telegram: Sorted, payload: &[u8], buffer: &mut [u8]) -> Answered
-        ensures { λ r. ⌜ r ≡ arrived longest self (telegram .kind) (now (payload .entry)) (length (now (buffer .entry))) ⌝ }
-        ensures { λ r. ⌜ now (buffer .exit) ≡ bufferedBy longest self (telegram .kind) (now (payload .entry)) (now (buffer .entry)) ⌝ }
-    {
-        let kind = telegram.kind;
-        match kind {
-            Telegram::Data {
-                asks: _,
-                last: _,
-                number: _,
-            } => self.on_data(telegram, payload, buffer),
-            Telegram::Ack {
-                ready: _,
-                number: _,
-            } => self.on_ack(telegram),
-            Telegram::Test => self.on_test(),
-            Telegram::Break => self.on_break(),
-            Telegram::Disconnect => self.answered(Answer::Disconnected),
-            Telegram::Setup(_) => self.answered(Answer::NotDue),
-            Telegram::Accept(fields) => self.on_accept(fields),
-            Telegram::Malformed => self.answered(Answer::Malformed),
-        }
-    }
-
-    // Data arrives.
-    fn on_data(mut self, telegram: Sorted, payload: &[u8], buffer: &mut [u8]) -> Answered
-        ensures { λ r. ⌜ r ≡ onData longest self (telegram .kind) (now (payload .entry)) (length (now (buffer .entry))) ⌝ }
-        ensures { λ r. ⌜ now (buffer .exit) ≡ bufferedBy longest self (telegram .kind) (now (payload .entry)) (now (buffer .entry)) ⌝ }
-    {
-        let receiver = self.receiver;
-        let r = receiver.receive(telegram, payload, buffer);
-        let note = r.note;
-        let next = r.receiver;
-        self.receiver = next;
-        self.answered(data_answer(note))
-    }
-
-    // An Ack arrives.
-    fn on_ack(mut self, telegram: Sorted) -> Answered
-        ensures { λ r. ⌜ r ≡ onAck self (telegram .kind) ⌝ }
-    {
-        let sender = self.sender;
-        let parameters = self.parameters;
-        let h = sender.hear(parameters.terms, telegram);
-        let note = h.note;
-        let next = h.sender;
-        self.sender = next;
-        self.answered(ack_answer(note))
-    }
-
-    // A test arrives.
-    fn on_test(mut self) -> Answered
-        ensures { λ r. ⌜ r ≡ onTest self ⌝ }
-    {
-        self.accept = true;
-        self.answered(Answer::Good)
-    }
-
-    // A break arrives.
-    fn on_break(mut self) -> Answered
-        ensures { λ r. ⌜ r ≡ onBreak self ⌝ }
-    {
-        let receiver = self.receiver;
-        let next = receiver.on_break();
-        self.receiver = next;
-        self.answered(Answer::Good)
-    }
-
-    // An A1 arrives.
-    fn on_accept(mut self, fields: telegram::kinds::Parameters) -> Answered
-        ensures { λ r. ⌜ r ≡ onAccept self fields ⌝ }
-    {
-        let out = self.tests.out;
-        let block = fields.block;
-        if !out {
-            return self.answered(Answer::NotDue);
-        }
-        if bad_block(block) {
-            return self.answered(Answer::BlockSize);
-        }
-        let tests = Tests {
-            out: false,
-            again: false,
-            wait: 0,
-            unanswered: 0,
-            interval: self.tests.interval,
-        };
-        self.tests = tests;
-        self.answered(Answer::Good)
     }
 
     // Time passes.

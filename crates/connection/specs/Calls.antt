@@ -24,7 +24,8 @@ use Rattle.receiver.specs.Receiving.{took}
 use Rattle.receiver.specs.declared.Took.{Took}
 use Rattle.receiver.specs.declared.Taking.{Taking}
 use Rattle.receiver.specs.declared.Taking.the-variants.{Shown, NoneComplete, ShortBuffer as ShortRoom}
-use Rattle.channel.specs.Opened.{withReceiver, bufferedBy, arrived as channelArrived, elapsed as channelElapsed, due as channelDue, sent as channelSent}
+use Rattle.channel.specs.Opened.{withReceiver, elapsed as channelElapsed, due as channelDue, sent as channelSent}
+use Rattle.arrival.specs.Arrived.{bufferedBy, arrived as channelArrived}
 use Rattle.connection.specs.declared.Attempt.{Attempt}
 use Rattle.connection.specs.declared.Connection.{Connection}
 use Rattle.connection.specs.declared.Answer.{Answer}

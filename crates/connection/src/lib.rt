@@ -7,7 +7,7 @@ ghost use Prim.Native.Nat.{min};
 ghost use lib.ListN.{length, take, drop};
 ghost use Rattle.telegram.specs.Cutting.{longest};
 ghost use Rattle.telegram.specs.Kinds.{sorted};
-ghost use Rattle.channel.specs.Opened.{bufferedBy};
+ghost use Rattle.arrival.specs.Arrived.{bufferedBy};
 ghost use Rattle.connection.specs.Numbers.{plain, said, told, passedOn};
 ghost use Rattle.connection.specs.Record.{noAttempt, newAttempt, noChannel, closedRecord, leavingOn, requesting, agreeing, ownFields, agreed, opened, hears, isOpen};
 ghost use Rattle.connection.specs.Calls.{gives, handOver, handNothing, shows, opening, onReply, onAccept, onAgreeing, settled, onOpen, arrived, buffered, attemptElapsed, elapsed, noFrame, closedDue, requestDue, openDue, dueOf, sentBy, takenBy, takes, looked, closed};
@@ -557,7 +557,7 @@ impl Connection {
         ensures { λ r. ⌜ now (buffer .exit) ≡ bufferedBy longest (self .channel) (sorted (now (bytes .entry)) .kind) (drop 1 (now (bytes .entry))) (now (buffer .entry)) ⌝ }
     {
         let ch = self.channel;
-        let r = ch.arrive(sort(bytes), behind_first(bytes), buffer);
+        let r = arrival::arrive(ch, sort(bytes), behind_first(bytes), buffer);
         let answer = r.answer;
         let next = r.channel;
         self.settled(answer, next).gives(pass_on(answer))

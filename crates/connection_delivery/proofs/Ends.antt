@@ -29,7 +29,8 @@ use Rattle.channel.specs.declared.Answer.the-variants.{Good, Done, Disconnected
 use Rattle.channel.specs.declared.Answered.{Answered as ChannelAnswered}
 use Rattle.channel.specs.declared.Due.{Due as ChannelDue}
 use Rattle.channel.specs.Numbers.{said as channelSaid, closes}
-use Rattle.channel.specs.Opened.{withSender, bufferedBy, dataAnswer, ackAnswer, offerAnswer, answered, onData, onAck as ackOn, arrived as channelArrived, repeatsUsedUp, waitEnds, elapsed as channelElapsed, testDue, handAccept, handTest, handAck, handBy, handData, due as channelDue, sent as channelSent}
+use Rattle.channel.specs.Opened.{withSender, offerAnswer, repeatsUsedUp, waitEnds, elapsed as channelElapsed, testDue, handAccept, handTest, handAck, handBy, handData, due as channelDue, sent as channelSent}
+use Rattle.arrival.specs.Arrived.{bufferedBy, dataAnswer, ackAnswer, answered, onData, onAck as ackOn, arrived as channelArrived}
 use Rattle.connection.specs.declared.Connection.{Connection}
 use Rattle.connection.specs.declared.Answer.the-variants.{Good as AnswerGood, NotDue as AnswerNotDue}
 use Rattle.connection.specs.Numbers.{said, passedOn}

@@ -15,7 +15,8 @@ use Rattle.receiver.specs.declared.Taking.the-variants.{Shown, NoneComplete, Sh
 use Rattle.channel.specs.declared.Channel.{Channel}
 use Rattle.channel.specs.declared.Answer.{Answer}
 use Rattle.channel.specs.Numbers.{said as channelSaid, closes}
-use Rattle.channel.specs.Opened.{withReceiver, testDue, arrived as channelArrived, elapsed as channelElapsed, due as channelDue, sent as channelSent}
+use Rattle.channel.specs.Opened.{withReceiver, testDue, elapsed as channelElapsed, due as channelDue, sent as channelSent}
+use Rattle.arrival.specs.Arrived.{arrived as channelArrived}
 use Rattle.connection.specs.declared.Connection.{Connection}
 use Rattle.connection.specs.Numbers.{said}
 use Rattle.connection.specs.Calls.{sentBy, takeAnswer, lengthShown, takenBy}

@@ -19,7 +19,8 @@ use Rattle.sender.specs.declared.Heard.{Heard}
 use Rattle.receiver.specs.declared.Message.{Message}
 use Rattle.receiver.specs.declared.Received.{Received}
 use Rattle.receiver.specs.Receiving.{waiting, first, used, completed, copied, filled, onFirst, onLater, onData as onReceiverData, received, settled as left, buffered as written}
-use Rattle.channel.specs.Opened.{withSender, withReceiver, restarted, dataAnswer, ackAnswer, answered, onData, onAck, onAccept as onTestAccept, arrived as channelArrived, bufferedBy}
+use Rattle.channel.specs.Opened.{withSender, withReceiver, restarted}
+use Rattle.arrival.specs.Arrived.{dataAnswer, ackAnswer, answered, onData, onAck, onAccept as onTestAccept, arrived as channelArrived, bufferedBy}
 use Rattle.channel.specs.declared.Answered.{Answered as ChannelAnswered}
 use Rattle.connection.specs.declared.Connection.{Connection}
 use Rattle.connection.specs.declared.Answered.{Answered}

@@ -27,7 +27,7 @@ use Rattle.receiver.specs.declared.Took.{Took}
 use Rattle.channel.specs.declared.Answer.{Answer}
 use Rattle.channel.specs.declared.Answer.the-variants.{Good, UsedUp}
 use Rattle.channel.specs.Numbers.{closes}
-use Rattle.channel.specs.Opened.{ackAnswer}
+use Rattle.arrival.specs.Arrived.{ackAnswer}
 use Rattle.delivery.specs.System.{Try, History, Fate, accepting, withMessages, withTries, handing, told, losing, lent, shownBy}
 use Rattle.delivery.specs.System.Side.{near}
 use Rattle.delivery.specs.System.Fate.{goes, stays, lost}

@@ -12,7 +12,8 @@ use Rattle.telegram.specs.Cutting.{streamOf, framesOf, headerOf, frameAt}
 use Rattle.telegram.specs.Kinds.{kindOf, sorted}
 use Rattle.sender.specs.Sending.{offered, distance, onAck, heard, passed, frameDue, firstNumber, handed}
 use Rattle.receiver.specs.Receiving.{waiting, settled, numbered, filled, onFirst, onLater, onData, received, copied, buffered, took}
-use Rattle.channel.specs.Opened.{answered, onData as dataOn, onAck as ackOn, onAccept, arrived, waitEnds, elapsed, testDue, handAccept, handTest, handAck, handData, due as dueOf, sent}
+use Rattle.channel.specs.Opened.{waitEnds, elapsed, testDue, handAccept, handTest, handAck, handData, due as dueOf, sent}
+use Rattle.arrival.specs.Arrived.{answered, onData as dataOn, onAck as ackOn, onAccept, arrived}
 use Rattle.delivery.specs.System.{System, End, Flying, Try, Call, endOf, linkTo, other, isData, step, run, sending, taking, timing, asking, arriving}
 use Rattle.delivery.specs.System.Fate.{goes, stays, lost}
 use Rattle.delivery.specs.System.Call.{send, take, time, due, arrive}

@@ -39,7 +39,8 @@ use Rattle.channel.specs.declared.Due.{Due}
 use Rattle.channel.specs.declared.Answer.{Answer}
 use Rattle.channel.specs.declared.Answered.{Answered}
 use Rattle.channel.specs.Numbers.{said, closes}
-use Rattle.channel.specs.Opened.{withSender, withTests, restarted, dataAnswer, offerAnswer, answered, onData, onAck, arrived, waitEnds, later as testsLater, lost as lostBy, went, repeatsUsedUp, elapsed, testDue, handAck, handBy, handData, due as dueOf, sent as sentBy}
+use Rattle.channel.specs.Opened.{withSender, withTests, restarted, offerAnswer, waitEnds, later as testsLater, lost as lostBy, went, repeatsUsedUp, elapsed, testDue, handAck, handBy, handData, due as dueOf, sent as sentBy}
+use Rattle.arrival.specs.Arrived.{dataAnswer, answered, onData, onAck, arrived}
 use Rattle.delivery.specs.System.{End, Try, Flying, History, System, Fate, Call, accepting, asked, told, left, sending, taking, timing, asking, arriving, lent, step, tryOf, counted, withHistory, withLinkTo, withEnd}
 use Rattle.delivery.specs.System.Side.{near, far}
 use Rattle.delivery.specs.System.Fate.{goes, stays, lost}

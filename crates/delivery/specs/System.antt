@@ -16,7 +16,8 @@ use Rattle.receiver.specs.declared.Taking.the-variants.{Shown, NoneComplete, Sh
 use Rattle.channel.specs.declared.Channel.{Channel}
 use Rattle.channel.specs.declared.Answer.{Answer}
 use Rattle.channel.specs.Numbers.{said, closes}
-use Rattle.channel.specs.Opened.{arrived, bufferedBy, elapsed, withReceiver, due as dueOf, sent as sentBy}
+use Rattle.channel.specs.Opened.{elapsed, withReceiver, due as dueOf, sent as sentBy}
+use Rattle.arrival.specs.Arrived.{arrived, bufferedBy}
 
 -- one end: its channel, its one lent buffer, and whether it is open still
 pub record End : Type 0 where

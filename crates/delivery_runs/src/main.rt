@@ -225,7 +225,7 @@ fn arrive_near(mut ends: Ends, stays: bool, buffer: &mut [u8]) -> Ends {
 fn arrive(end: Channel, payload: Payload, buffer: &mut [u8]) -> channel::Answered {
     let all = payload.bytes;
     let telegram = front(&all, payload.len);
-    end.arrive(kinds::sort(telegram), behind(telegram, 1), buffer)
+    arrival::arrive(end, kinds::sort(telegram), behind(telegram, 1), buffer)
 }
 
 // The first n elements, or all of fewer.

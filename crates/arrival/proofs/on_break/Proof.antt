@@ -1,6 +1,6 @@
 use borrow.Author.Needs.{needs}
-use Rattle.channel.proofs.Channel.on_break.Statement.{statement}
-use Rattle.channel.proofs.Channel.on_break.Tie as tie
+use Rattle.arrival.proofs.on_break.Statement.{statement}
+use Rattle.arrival.proofs.on_break.Tie as tie
 
 pub on-break-spec : {M : Type 1} → statement M
 on-break-spec =

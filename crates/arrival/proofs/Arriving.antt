@@ -11,11 +11,12 @@ use Rattle.telegram.specs.declared.kinds.Telegram.{Telegram}
 use Rattle.telegram.specs.declared.kinds.Telegram.the-variants.{Data, Ack, Test, Break, Disconnect, Setup, Accept, Malformed}
 use Rattle.sender.specs.Sending.{heard}
 use Rattle.receiver.specs.Receiving.{received}
 use Rattle.channel.specs.declared.Answer.{Answer}
 use Rattle.channel.specs.declared.Channel.{Channel}
 use Rattle.channel.specs.declared.Answered.{Answered}
 use Rattle.channel.specs.Numbers.{said}
-use Rattle.channel.specs.Opened.{withSender, withReceiver, dataAnswer, ackAnswer, answered, onData, onAck, onAccept, arrived}
+use Rattle.channel.specs.Opened.{withSender, withReceiver}
+use Rattle.arrival.specs.Arrived.{dataAnswer, ackAnswer, answered, onData, onAck, onAccept, arrived}
 
 -- an arrival is answered so, and leaves that channel but for the interval
 pub record Leaves (a : Answer) (c : Channel) (x : Answered) : Type 0 where

@@ -1,6 +1,6 @@
 use borrow.Author.Needs.{needs}
-use Rattle.channel.proofs.data_answer.Statement.{statement}
-use Rattle.channel.proofs.data_answer.Tie as tie
+use Rattle.arrival.proofs.data_answer.Statement.{statement}
+use Rattle.arrival.proofs.data_answer.Tie as tie
 
 pub data-answer-spec : {M : Type 1} → statement M
 data-answer-spec =

@@ -1,8 +1,8 @@
 use borrow.Author.Needs.{needs}
-use Rattle.channel.specs.Opened.{arrived}
+use Rattle.arrival.specs.Arrived.{arrived}
 use Rattle.receiver.specs.Receiving.{received, buffered}
-use Rattle.channel.proofs.Channel.arrive.Statement.{statement}
-use Rattle.channel.proofs.Channel.arrive.Tie as tie
+use Rattle.arrival.proofs.arrive.Statement.{statement}
+use Rattle.arrival.proofs.arrive.Tie as tie
 
 pub arrive-spec : {M : Type 1} → statement M
 unfolding arrived buffered received

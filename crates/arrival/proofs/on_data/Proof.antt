@@ -1,7 +1,7 @@
 use borrow.Author.Needs.{needs}
-use Rattle.channel.specs.Opened.{onData}
-use Rattle.channel.proofs.Channel.on_data.Statement.{statement}
-use Rattle.channel.proofs.Channel.on_data.Tie as tie
+use Rattle.arrival.specs.Arrived.{onData}
+use Rattle.arrival.proofs.on_data.Statement.{statement}
+use Rattle.arrival.proofs.on_data.Tie as tie
 
 pub on-data-spec : {M : Type 1} → statement M
 unfolding onData

@@ -1,8 +1,8 @@
 use borrow.Author.Needs.{needs}
 use Rattle.laws.proofs.Branches.{branches}
-use Rattle.channel.specs.Opened.{answered}
-use Rattle.channel.proofs.Channel.answered.Statement.{statement}
-use Rattle.channel.proofs.Channel.answered.Tie as tie
+use Rattle.arrival.specs.Arrived.{answered}
+use Rattle.arrival.proofs.answered.Statement.{statement}
+use Rattle.arrival.proofs.answered.Tie as tie
 
 pub answered-spec : {M : Type 1} → statement M
 unfolding answered

@@ -1,8 +1,8 @@
 use borrow.Author.Needs.{needs}
 use Rattle.laws.proofs.Branches.{branches}
-use Rattle.channel.specs.Opened.{onAccept}
-use Rattle.channel.proofs.Channel.on_accept.Statement.{statement}
-use Rattle.channel.proofs.Channel.on_accept.Tie as tie
+use Rattle.arrival.specs.Arrived.{onAccept}
+use Rattle.arrival.proofs.on_accept.Statement.{statement}
+use Rattle.arrival.proofs.on_accept.Tie as tie
 
 pub on-accept-spec : {M : Type 1} → statement M
 unfolding onAccept

@@ -1,7 +1,7 @@
 use borrow.Author.Needs.{needs}
-use Rattle.channel.specs.Opened.{onAck}
-use Rattle.channel.proofs.Channel.on_ack.Statement.{statement}
-use Rattle.channel.proofs.Channel.on_ack.Tie as tie
+use Rattle.arrival.specs.Arrived.{onAck}
+use Rattle.arrival.proofs.on_ack.Statement.{statement}
+use Rattle.arrival.proofs.on_ack.Tie as tie
 
 pub on-ack-spec : {M : Type 1} → statement M
 unfolding onAck
