@@ -3,12 +3,29 @@ use Prim.Native.Nat.{ℕ}
 use native.Mathlib.Omega.{arith}
 use mathlib.Core.Bool.{Bool, true, false, not}
 use mathlib.Core.Path.{_≡_, refl}
-use mathlib.Core.List.{List}
+use mathlib.Core.List.{List, [], _∷_}
 use borrow.Author.Tests.{ne-eqb}
-use Rattle.receiver.specs.Receiving.{waiting, following, settled, kept, onData, isUsed}
+use Rattle.receiver.specs.Receiving.{none, idle, noAck, waiting, following, settled, kept, filled, onFirst, onData, isUsed}
 use Rattle.receiver.specs.declared.Receiver.{Receiver}
-use Rattle.receiver.specs.declared.Receipt.the-variants.{OutOfPlace}
+use Rattle.receiver.specs.declared.Receipt.the-variants.{Complete, OutOfPlace}
 use Rattle.receiver.specs.declared.Received.{Received}
+
+-- the seam where numbers begin again: 15 comes before 0, and 0 before 1, so each is out of place there
+
+abbrev expecting : ℕ → Receiver
+expecting number = record { at = idle number; back = idle number; complete = none; ack = noAck }
+
+pub fifteen-before-zero : (onData 1024 (expecting 0) true true 15 (0 ∷ 1 ∷ 7 ∷ []) 1024) .note ≡ OutOfPlace 0
+unfolding onData
+fifteen-before-zero = refl
+
+pub zero-before-one : (onData 1024 (expecting 1) true true 0 (0 ∷ 1 ∷ 7 ∷ []) 1024) .note ≡ OutOfPlace 1
+unfolding onData
+zero-before-one = refl
+
+pub zero-after-fifteen : (onData 1024 (expecting 0) true true 0 (0 ∷ 1 ∷ 7 ∷ []) 1024) .note ≡ Complete
+unfolding onData onFirst filled
+zero-after-fifteen = refl
 
 -- a frame that was not used: all is as before, but an Ack is due with the number still expected
 pub record Unused (r : Receiver) (x : Received) : Type 0 where

@@ -1,3 +1,4 @@
 pub mod Gaps
 pub mod Outcomes
 pub mod Laws
+pub mod Verdict

@@ -7,7 +7,9 @@ ghost use mathlib.Core.Path.{_≡_};
 ghost use Prim.Native.Nat.{_+_, _≤_};
 ghost use lib.ListN.{length};
 ghost use Rattle.telegram.specs.Cutting.{longest};
-ghost use Rattle.receiver.specs.Receiving.{fresh, waiting, following, settled, kept, numbered, discarded, filled, onFirst, onLater, onData, received, pasted, isUsed, buffered, returned, ackHanded, took};
+ghost use mathlib.Core.Bool.{false};
+ghost use Rattle.receiver.specs.Inside.{inOrder, broughtBy, left};
+ghost use Rattle.receiver.specs.Receiving.{fresh, waiting, following, settled, kept, numbered, discarded, filled, onData, received, pasted, isUsed, buffered, returned, ackHanded, took};
 use telegram::cutting::LONGEST;
 use telegram::cutting::declared_length;
 use telegram::kinds::Sorted;
@@ -79,6 +81,12 @@ pub struct Received {
     pub receiver: Receiver,
 }
 
+// What a frame brings: the length of its message, and how many bytes of that are then there.
+struct Brought {
+    length: u16,
+    fill: usize,
+}
+
 // What taking a message finds.
 pub enum Taking {
     Shown,
@@ -105,6 +113,31 @@ fn paste(payload: &[u8], buffer: &mut [u8], at: usize)
     ensures { λ _. ⌜ now (buffer .exit) ≡ pasted (now (buffer .entry)) at (now (payload .entry)) ⌝ }
 {
     bytes::copy(payload, &mut buffer[at..]);
+}
+
+// What becomes of a frame that brings a message of a length to fill bytes, in a buffer of room bytes.
+fn outcome(last: bool, length: usize, fill: usize, room: usize) -> Receipt
+    ensures { λ r. ⌜ r ≡ (filled fresh false last (record { length = length }) fill room) .note ⌝ }
+{
+    if length < fill {
+        return Receipt::Broken(Cause::TooMany);
+    }
+    if last {
+        if fill < length {
+            return Receipt::Broken(Cause::EarlyEnd);
+        }
+        if room < length {
+            return Receipt::ShortFirst;
+        }
+        return Receipt::Complete;
+    }
+    if fill == length {
+        return Receipt::Broken(Cause::NoEnd);
+    }
+    if room < length {
+        return Receipt::ShortFirst;
+    }
+    Receipt::Used
 }
 
 impl Receipt {
@@ -211,90 +244,107 @@ impl Receiver {
             };
         }
         if at.discarding {
-            return self.discard(asks, last, Receipt::ThrownAway);
+            return Received {
+                note: Receipt::ThrownAway,
+                receiver: self.discard(asks, last),
+            };
         }
-        let begun = at.begun;
-        if begun.length == 0 {
-            return self.on_first(asks, last, payload, room);
-        }
-        self.on_later(asks, last, payload, room)
+        self.in_order(asks, last, payload, room)
     }
 
-    // A message's first frame: two length bytes and the first of its own.
-    fn on_first(self, asks: bool, last: bool, payload: &[u8], room: usize) -> Received
-        ensures { λ r. ⌜ r ≡ onFirst longest self asks last (now (payload .entry)) room ⌝ }
+    // A first or a later frame: what becomes of it is judged first, over numbers alone, and then one receiver is built. Whole
+    // records that meet from many branches are slow.
+    fn in_order(self, asks: bool, last: bool, payload: &[u8], room: usize) -> Received
+        ensures { λ r. ⌜ r ≡ inOrder longest self asks last (now (payload .entry)) room ⌝ }
     {
-        if payload.len() < 2 {
-            return self.discard(asks, last, Receipt::Broken(Cause::TooShort));
+        let brought = self.brought(payload);
+        let note = self.judged(last, brought, payload, room);
+        Received {
+            note,
+            receiver: self.after(note, asks, last, brought),
         }
-        let length = declared_length(payload[0], payload[1]);
-        if length == 0 {
-            return self.discard(asks, last, Receipt::Broken(Cause::BadLength));
-        }
-        if LONGEST < length {
-            return self.discard(asks, last, Receipt::Broken(Cause::BadLength));
-        }
-        self.filled(asks, last, Message { length }, payload.len() - 2, room)
     }
 
-    // A later frame of the message begun.
-    fn on_later(self, asks: bool, last: bool, payload: &[u8], room: usize) -> Received
-        ensures { λ r. ⌜ r ≡ onLater self asks last (now (payload .entry)) room ⌝ }
+    // What a frame brings to the message begun, or to the one that it begins.
+    fn brought(self, payload: &[u8]) -> Brought
+        ensures { λ r. ⌜ r ≡ broughtBy self (now (payload .entry)) ⌝ }
     {
         let at = self.at;
         let begun = at.begun;
-        if room < begun.length as usize {
-            return Received {
-                note: Receipt::ShortLater,
-                receiver: self,
+        if begun.length != 0 {
+            return Brought {
+                length: begun.length,
+                fill: at.fill as usize + payload.len(),
             };
         }
-        let fill = at.fill as usize;
-        self.filled(asks, last, begun, fill + payload.len(), room)
-    }
-
-    // A frame that brings a message to fill bytes.
-    fn filled(self, asks: bool, last: bool, m: Message, fill: usize, room: usize) -> Received
-        ensures { λ r. ⌜ r ≡ filled self asks last m fill room ⌝ }
-    {
-        let length = m.length as usize;
-        if length < fill {
-            return self.discard(asks, last, Receipt::Broken(Cause::TooMany));
+        if payload.len() < 2 {
+            return Brought { length: 0, fill: 0 };
         }
-        if last {
-            if fill < length {
-                return self.discard(asks, last, Receipt::Broken(Cause::EarlyEnd));
-            }
-            if room < length {
-                return self.discard(asks, last, Receipt::ShortFirst);
-            }
-            return Received {
-                note: Receipt::Complete,
-                receiver: self.numbered(asks, true, false, Message { length: 0 }, 0, m),
-            };
-        }
-        if fill == length {
-            return self.discard(asks, last, Receipt::Broken(Cause::NoEnd));
-        }
-        if room < length {
-            return self.discard(asks, last, Receipt::ShortFirst);
-        }
-        let complete = self.complete;
-        Received {
-            note: Receipt::Used,
-            receiver: self.numbered(asks, false, false, m, fill as u16, complete),
+        Brought {
+            length: declared_length(payload[0], payload[1]),
+            fill: payload.len() - 2,
         }
     }
 
-    // A frame whose message is thrown away, for the given reason.
-    fn discard(self, asks: bool, last: bool, note: Receipt) -> Received
-        ensures { λ r. ⌜ r ≡ record { note = note; receiver = discarded self asks last } ⌝ }
+    // What becomes of a first or a later frame, in the order of the checks.
+    fn judged(self, last: bool, brought: Brought, payload: &[u8], room: usize) -> Receipt
+        requires { ⌜ brought ≡ broughtBy self (now payload) ⌝ }
+        ensures { λ r. ⌜ r ≡ (inOrder longest self false last (now (payload .entry)) room) .note ⌝ }
+    {
+        let at = self.at;
+        let begun = at.begun;
+        let first = begun.length == 0;
+        let length = brought.length;
+        let size = payload.len();
+        if first & (size < 2) {
+            return Receipt::Broken(Cause::TooShort);
+        }
+        if first & ((length == 0) | (LONGEST < length)) {
+            return Receipt::Broken(Cause::BadLength);
+        }
+        if !first & (room < length as usize) {
+            return Receipt::ShortLater;
+        }
+        outcome(last, length as usize, brought.fill, room)
+    }
+
+    // The receiver after a first or a later frame, by what became of it.
+    fn after(self, note: Receipt, asks: bool, last: bool, brought: Brought) -> Receiver
+        ensures { λ r. ⌜ r ≡ left self note asks last brought ⌝ }
     {
         let complete = self.complete;
-        Received {
-            note,
-            receiver: self.numbered(asks, last, !last, Message { length: 0 }, 0, complete),
+        let none = Message { length: 0 };
+        let m = Message {
+            length: brought.length,
+        };
+        match note {
+            Receipt::Used => {
+                self.numbered(
+                    asks,
+                    false,
+                    false,
+                    m,
+                    (brought.fill % 65536) as u16,
+                    complete,
+                )
+            }
+            Receipt::Complete => self.numbered(asks, true, false, none, 0, m),
+            Receipt::ThrownAway => self,
+            Receipt::OutOfPlace(_) => self,
+            Receipt::Untaken => self,
+            Receipt::ShortFirst => self.discard(asks, last),
+            Receipt::ShortLater => self,
+            Receipt::Broken(_) => self.discard(asks, last),
+            Receipt::NoData => self,
         }
+    }
+
+    // A frame whose message is thrown away.
+    fn discard(self, asks: bool, last: bool) -> Receiver
+        ensures { λ r. ⌜ r ≡ discarded self asks last ⌝ }
+    {
+        let complete = self.complete;
+        self.numbered(asks, last, !last, Message { length: 0 }, 0, complete)
     }
 
     // A frame that is numbered: the number behind it is expected.

@@ -1,6 +1,6 @@
 use Rattle.laws.proofs.Branches.{branches}
-use Rattle.receiver.specs.Receiving.{onData}
 use borrow.Author.Needs.{needs}
+use Rattle.receiver.specs.Receiving.{onData}
 use Rattle.receiver.proofs.Receiver.on_data.Statement.{statement}
 use Rattle.receiver.proofs.Receiver.on_data.Tie as tie
 
@@ -14,8 +14,6 @@ on-data-spec =
     (λ c κs. search needs)
     (λ c. rw (c .before .before .before .before .kept .ensures) (search branches depth 40 fits 8000))
     (λ c κs. search needs)
-    (λ c. search branches depth 40 fits 8000)
-    (λ c κs. search needs)
-    (λ c. search branches depth 40 fits 8000)
+    (λ c. rw (c .discard .ensures) (search branches depth 40 fits 8000))
     (λ c κs. search needs)
     (λ c. search branches depth 40 fits 8000))

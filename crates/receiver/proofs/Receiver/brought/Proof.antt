@@ -1,0 +1,20 @@
+use Rattle.laws.proofs.Branches.{branches}
+use borrow.Author.Needs.{needs}
+use Rattle.receiver.specs.Inside.{broughtBy}
+use Rattle.receiver.proofs.Receiver.brought.Statement.{statement}
+use Rattle.receiver.proofs.Receiver.brought.Tie as tie
+
+pub brought-spec : {M : Type 1} → statement M
+unfolding broughtBy
+brought-spec =
+    tie.close
+    (tie.spec
+    (λ c. search needs)
+    (λ c. search needs)
+    (λ c. search branches depth 40 fits 8000)
+    (λ c. search branches depth 40 fits 8000)
+    (λ c. search needs)
+    (λ c. search needs)
+    (λ c κs. search needs)
+    (λ c. search needs)
+    (λ c. rw (c .declared-length .ensures) (search branches depth 40 fits 8000)))

@@ -1,0 +1,16 @@
+use Rattle.laws.proofs.Branches.{branches}
+use Rattle.receiver.proofs.Verdict.{filled-notes}
+use Rattle.receiver.proofs.outcome.Statement.{statement}
+use Rattle.receiver.proofs.outcome.Tie as tie
+
+pub outcome-spec : {M : Type 1} → statement M
+outcome-spec =
+    tie.close
+    (tie.spec
+    (λ c. rw filled-notes (search branches depth 40 fits 8000))
+    (λ c. rw filled-notes (search branches depth 40 fits 8000))
+    (λ c. rw filled-notes (search branches depth 40 fits 8000))
+    (λ c. rw filled-notes (search branches depth 40 fits 8000))
+    (λ c. rw filled-notes (search branches depth 40 fits 8000))
+    (λ c. rw filled-notes (search branches depth 40 fits 8000))
+    (λ c. rw filled-notes (search branches depth 40 fits 8000)))
