@@ -1,7 +1,7 @@
 /* The same work as the program loopback, in C written for the purpose: one end of a TP 2.0 connection with the same calls
- * and the same checks (opening, IDs, sorting, both halves, tests, timers, order of sending), records passed by pointer;
- * two such ends over perfect links, messages of every length from 1 to 1,024 each way. Standard input has the number of
- * rounds. It is there to be measured against, and nothing else uses it. */
+ * and the same checks (phases, IDs, sorting, both halves, tests, timers, order of sending), records passed by pointer; two
+ * such ends, open from the start, over perfect links, messages of every length from 1 to 1,024 each way. Standard input has
+ * the number of rounds. It is there to be measured against, and nothing else uses it. */
 #include <stdbool.h>
 #include <stdint.h>
 #include <stdio.h>
@@ -96,12 +96,6 @@ static inline void write_request(struct payload *p, uint8_t unit, uint16_t recei
     *p = (struct payload){7, {unit, 0xC0, 0x00, 0x10, receive & 255, receive >> 8 & 7, 0x01}};
 }
 
-static inline void write_reply(struct payload *p, uint8_t opcode, uint16_t receive, uint16_t transmit)
-{
-    *p = (struct payload){
-        7, {0x00, opcode, receive & 255, receive >> 8 & 7, transmit & 255, transmit >> 8 & 7, 0x01}};
-}
-
 static inline bool asks_at(uint8_t block, unsigned frames, unsigned place)
 {
     return place + 1 == frames || (block && (place + 1) % block == 0);
@@ -144,7 +138,7 @@ struct sender {
 
 enum answer {
     GOOD, DONE, MALFORMED_BYTES, BLOCK_SIZE, OTHER_ID, NOT_DUE, BUSY, BAD_LENGTH, SHORT_BUFFER, USED_UP,
-    BROKEN, OUT_OF_RANGE, REFUSED, NO_CHANGE, DISCONNECTED
+    BROKEN, REFUSED, NO_CHANGE
 };
 
 static inline enum answer sender_offer(struct sender *s, size_t len)
@@ -323,12 +317,6 @@ struct settings {
 
 static const struct settings defaults = {0x300, 0x01, 15, 0x8A, 0x32, 1000, 10, 5, 1000, 10000, 5};
 
-static inline bool in_range(const struct settings *s)
-{
-    return s->receive <= 0x7FF && s->unit <= 0xEF && s->block >= 1 && s->block <= 15 && s->t1 % 64 != 0 &&
-           s->reply >= 1 && s->reply <= 10000 && s->pause >= 1;
-}
-
 enum phase { CLOSED, REQUESTING, AGREEING, OPEN };
 
 struct connection {
@@ -370,14 +358,19 @@ static inline void make_leaving(struct connection *c)
     c->leaving = true;
 }
 
-static inline enum answer connection_open(struct connection *c, const struct settings *s)
+/* The A1 opens the channel: all numbers start at 0, and nothing is left from before. */
+static inline void make_open(struct connection *c, const struct fields *peer)
 {
-    if (c->phase != CLOSED)
-        return NOT_DUE;
-    if (!in_range(s))
-        return OUT_OF_RANGE;
-    *c = (struct connection){.phase = REQUESTING, .settings = *s, .due = true};
-    return GOOD;
+    struct settings s = c->settings;
+    *c = (struct connection){
+        .phase = OPEN,
+        .settings = s,
+        .transmit = c->transmit,
+        .terms = {s.block < peer->block ? s.block : peer->block, tenths_of(s.t1), tenths_of(peer->t3), s.repeats,
+                  s.pause},
+        .interval = s.interval,
+        .test_left = s.interval,
+    };
 }
 
 static inline enum answer on_reply(struct connection *c, const uint8_t *s, size_t n)
@@ -418,16 +411,7 @@ static inline enum answer on_agreeing(struct connection *c, const struct telegra
         return NOT_DUE;
     if (t->fields.block == 0 || t->fields.block > 15)
         return BLOCK_SIZE;
-    struct settings s = c->settings;
-    *c = (struct connection){
-        .phase = OPEN,
-        .settings = s,
-        .transmit = c->transmit,
-        .terms = {s.block < t->fields.block ? s.block : t->fields.block, tenths_of(s.t1), tenths_of(t->fields.t3),
-                  s.repeats, s.pause},
-        .interval = s.interval,
-        .test_left = s.interval,
-    };
+    make_open(c, &t->fields);
     return GOOD;
 }
 
@@ -633,6 +617,9 @@ static enum answer connection_take(struct connection *c, size_t room, size_t *le
 
 /* ---- the work ---- */
 
+/* The time between two data frames, the turns of a run, and the runs that a message may take. */
+enum { GAP = 50, TURNS = 16, RUNS = 32 };
+
 struct tally {
     uint64_t messages, frames, bytes, sum, checksum;
 };
@@ -650,44 +637,45 @@ static inline void count(struct tally *t, const struct payload *p)
     t->checksum = checksum;
 }
 
-/* The end's request is handed over, and the reply of a peer with the same settings arrives. */
-static void answer_request(struct connection *c, uint16_t peer, struct tally *tally)
+/* An end with the default settings but for its receive ID, as the A1 of a peer with the same settings leaves it. */
+static void make_end(struct connection *c, uint16_t receive, uint16_t transmit)
 {
-    struct fields own = {c->settings.block, c->settings.t1, c->settings.t3};
-    struct frame f;
-    bool given;
-    enum phase phase = c->phase;
-    connection_due(c, NULL, 0, &given, &f);
-    if (phase == REQUESTING) {
-        f.id = 0x200 + c->settings.unit;
-        write_reply(&f.payload, 0xD0, c->settings.receive, peer);
-    } else {
-        f.id = c->settings.receive;
-        write_fields(&f.payload, 0xA1, &own);
-    }
-    connection_arrive(c, f.id, f.payload.bytes, f.payload.len, NULL, 0);
-    count(tally, &f.payload);
-}
-
-static void open_both(struct connection *one, struct connection *other, struct tally *tally)
-{
-    struct settings s = defaults;
-    make_closed(one);
-    make_closed(other);
-    s.receive = 0x300;
-    connection_open(one, &s);
-    s.receive = 0x740;
-    connection_open(other, &s);
-    for (int phase = REQUESTING; phase < OPEN; phase++) {
-        answer_request(one, 0x740, tally);
-        answer_request(other, 0x300, tally);
-    }
+    struct fields peer = {defaults.block, defaults.t1, defaults.t3};
+    make_closed(c);
+    c->settings.receive = receive;
+    c->transmit = transmit;
+    make_open(c, &peer);
 }
 
 static uint8_t message[LONGEST], buffer[LONGEST];
 
-/* Lets an end hand over, frame by frame, what it has due, and then the other end, until the message is done; the answer is
- * whether it was handed out as it was sent. */
+/* What the one end has due arrives at the other, frame by frame, until nothing is due, the message is done, or an end is
+ * not open; the answer is whether it is done. Before each frame the time between two data frames passes. */
+static bool run(struct connection *from, struct connection *to, struct tally *tally, size_t len)
+{
+    if (from->phase != OPEN || to->phase != OPEN)
+        return false;
+    for (unsigned left = TURNS; left > 0; left--) {
+        struct frame f;
+        bool given;
+        connection_elapse(from, GAP);
+        if (from->phase != OPEN)
+            return false;
+        connection_due(from, message, len, &given, &f);
+        if (from->phase != OPEN || !given)
+            return false;
+        bool done = connection_arrive(to, f.id, f.payload.bytes, f.payload.len, buffer, sizeof buffer) == DONE;
+        if (to->phase != OPEN)
+            return false;
+        count(tally, &f.payload);
+        if (done)
+            return true;
+    }
+    return false;
+}
+
+/* A run of frames there, a run of Acks back, and so on until the message is done; the answer is whether it was handed out
+ * as it was sent. */
 static bool one_way(struct connection *near, struct connection *far, struct tally *tally, size_t len, uint8_t step)
 {
     uint8_t b = (uint8_t)len;
@@ -696,19 +684,11 @@ static bool one_way(struct connection *near, struct connection *far, struct tall
     connection_send(near, len);
     struct connection *from = near, *to = far;
     bool done = false;
-    for (unsigned left = 512; left > 0 && !done; left--) {
-        struct frame f;
-        bool given;
-        connection_elapse(from, 50);
-        connection_due(from, message, from == near ? len : 0, &given, &f);
-        if (given) {
-            done = connection_arrive(to, f.id, f.payload.bytes, f.payload.len, buffer, sizeof buffer) == DONE;
-            count(tally, &f.payload);
-        } else {
-            struct connection *other = to;
-            to = from;
-            from = other;
-        }
+    for (unsigned left = RUNS; left > 0 && !done; left--) {
+        done = run(from, to, tally, from == near ? len : 0);
+        struct connection *other = to;
+        to = from;
+        from = other;
     }
     size_t taken;
     connection_take(far, sizeof buffer, &taken);
@@ -740,7 +720,8 @@ int main(void)
     }
     struct connection one, other;
     struct tally tally = {0};
-    open_both(&one, &other, &tally);
+    make_end(&one, 0x300, 0x740);
+    make_end(&other, 0x740, 0x300);
     for (; rounds > 0; rounds--)
         for (size_t len = 1; len <= LONGEST; len++)
             if (!one_way(&one, &other, &tally, len, 3) || !one_way(&other, &one, &tally, len, 5)) {

@@ -1,21 +1,23 @@
-// Two ends of a connection over perfect links in memory: a message of every length from 1 to 1,024 goes from the one to the
-// other and another one back, and each frame handed over arrives at once. It prints how many messages and frames arrived,
+// Two ends of an open connection over perfect links in memory: a message of every length from 1 to 1,024 goes from the one to
+// the other and another one back, and each frame handed over arrives at once. It prints how many messages and frames arrived,
 // how many bytes the frames had, and a checksum over those bytes.
 //
-// Each call of the record stands here at one place only, for the opening as for the messages: the compiler then takes it up
-// into the loop (docs/PERFORMANCE.md).
+// The ends start as an A1 leaves them. Each call of the record stands here at one place only, and the loop around the calls is
+// left as soon as a record is not open: the compiler then takes the calls up into the loop, without what only an opening or a
+// closed record needs of them (docs/PERFORMANCE.md).
 //
 // Standard input has the number of rounds, 1 to 1,000,000; with no input one is played.
+ghost use mathlib.Core.Path.{_≡_};
 ghost use Prim.Native.Nat.{_≤_};
+ghost use Rattle.connection.specs.Record.{requesting, agreeing, opened, ownFields};
+use channel::Channel;
+use connection::Attempt;
 use connection::Connection;
-use connection::Frame;
 use connection::shown;
-use opening::POSITIVE;
-use opening::write_reply;
+use sender::Terms;
 use settings::Settings;
 use telegram::kinds::Parameters;
-use telegram::kinds::write_accept;
-use telegram::payload::Payload;
+use telegram::time::tenths;
 
 // The IDs that the two ends receive on.
 const ONE: u16 = 0x300;
@@ -24,6 +26,15 @@ const OTHER: u16 = 0x740;
 
 // The time between two data frames, in tenths of a millisecond: what the default T3 asks for.
 const GAP: u64 = 50;
+
+// The turns of a run: one for each frame of a block, and one that finds nothing due.
+const TURNS: usize = 16;
+
+// The runs that a message may take. The longest has 10 blocks and takes one there and one back for each.
+const RUNS: usize = 32;
+
+// The phase of an open record.
+const OPEN: u8 = 3;
 
 const LONGEST: usize = 1024;
 
@@ -42,11 +53,7 @@ struct Ends {
     // The end that hands over what it has due, and the one where it arrives.
     from: Connection,
     to: Connection,
-    // The first has the message in sending.
-    sends: bool,
-    // The last turn found nothing due.
-    idle: bool,
-    // The message in sending was acknowledged to its end, or neither end has anything due.
+    // The message in sending was acknowledged to its end.
     done: bool,
     // A message was not handed out as it was sent.
     wrong: bool,
@@ -122,10 +129,10 @@ fn play(rounds: u64, message: &mut [u8], buffer: &mut [u8]) -> Ends {
     ends
 }
 
-// Every length once, each way. Length 0 comes first: no message goes then, but what the ends have due, which opens them.
+// Every length once, each way.
 fn round(start: Ends, message: &mut [u8], buffer: &mut [u8]) -> Ends {
     let mut ends = start;
-    let mut len = 0;
+    let mut len = 1;
     while len <= LONGEST {
         ends = both_ways(ends, len, message, buffer);
         if ends.wrong {
@@ -157,14 +164,67 @@ fn fill(message: &mut [u8], len: usize, step: u8) {
     }
 }
 
-// Frames go over the links until the message is done: never more turns than the longest one takes.
+// A run of frames there, a run of Acks back, and so on until the message is done.
 fn carry(start: Ends, message: &[u8], buffer: &mut [u8]) -> Ends {
     let mut ends = start;
-    let mut left: u16 = 512;
+    let mut sends = true;
+    let mut left = RUNS;
     while 0 < left {
         left -= 1;
-        ends = ends.turn(message, buffer);
+        ends = run(ends, lent(message, sends), buffer);
         if ends.done {
+            return ends;
+        }
+        ends = ends.swapped();
+        sends = !sends;
+    }
+    ends
+}
+
+// A run: what the one end has due arrives at the other, frame by frame, until nothing is due, the message is done, or an end is
+// not open. Before each frame the time between two data frames passes.
+fn run(start: Ends, message: &[u8], buffer: &mut [u8]) -> Ends {
+    let mut ends = start;
+    if ends.from.phase != OPEN {
+        return ends;
+    }
+    if ends.to.phase != OPEN {
+        return ends;
+    }
+    let mut left = TURNS;
+    while 0 < left {
+        left -= 1;
+        let c = ends.from;
+        let e = c.elapse(GAP);
+        let c = e.connection;
+        if c.phase != OPEN {
+            ends.from = c;
+            return ends;
+        }
+        let d = c.due(message);
+        let next = d.connection;
+        ends.from = next;
+        if next.phase != OPEN {
+            return ends;
+        }
+        if !d.given {
+            return ends;
+        }
+        let frame = d.frame;
+        let payload = frame.payload;
+        let bytes = payload.bytes;
+        let c = ends.to;
+        let r = c.arrive(frame.id, telegram(&bytes, payload.len), buffer);
+        let done = r.told.said.done;
+        let next = r.connection;
+        ends.to = next;
+        if next.phase != OPEN {
+            return ends;
+        }
+        let tally = ends.tally;
+        ends.tally = tally.with_frame(telegram(&bytes, payload.len));
+        if done {
+            ends.done = true;
             return ends;
         }
     }
@@ -179,13 +239,11 @@ fn lent(message: &[u8], sends: bool) -> &[u8] {
     shown(message, 0)
 }
 
-// Two ends that are to be opened.
+// Two open ends, and nothing over the links yet.
 fn fresh() -> Ends {
     Ends {
-        from: asking(ONE),
-        to: asking(OTHER),
-        sends: false,
-        idle: false,
+        from: opened(ONE, OTHER),
+        to: opened(OTHER, ONE),
         done: false,
         wrong: false,
         tally: Tally {
@@ -198,34 +256,40 @@ fn fresh() -> Ends {
     }
 }
 
-// An end with the default settings that receives on the given ID, and has its C0 due.
-fn asking(receive: u16) -> Connection {
+// An end with the default settings but for its receive ID, as the A1 of a peer with the same settings leaves it.
+fn opened(receive: u16, transmit: u16) -> Connection
+    ensures { λ r. ⌜ r ≡ opened (agreeing (requesting (r .settings)) transmit) (ownFields (r .settings)) ⌝ }
+{
     let mut settings = Settings::DEFAULT;
     settings.receive = receive;
-    let o = Connection::closed().open(settings);
-    o.connection
-}
-
-// What a frame becomes on the link: the request of an end that is not open yet comes back as the reply of a peer with the same
-// settings, which receives on the given ID.
-fn on_link(frame: Frame, phase: u8, settings: Settings, peer: u16) -> Frame {
-    if phase == 1 {
-        return Frame {
-            id: 0x200 + settings.unit as u16,
-            payload: write_reply(POSITIVE, settings.receive, peer),
-        };
-    }
-    if phase == 2 {
-        return Frame {
-            id: settings.receive,
-            payload: write_accept(Parameters {
+    Connection {
+        transmit,
+        phase: OPEN,
+        leaving: false,
+        settings,
+        attempt: Attempt {
+            wait: 0,
+            due: false,
+            asked: false,
+            repeats: 0,
+        },
+        channel: Channel::fresh(channel::Parameters {
+            terms: Terms {
+                t1: tenths(settings.t1),
+                t3: tenths(settings.t3),
+                pause: settings.pause as u32,
+                block: settings.block,
+                repeats: settings.repeats,
+            },
+            interval: settings.interval as u32,
+            allowed: settings.tests,
+            own: Parameters {
                 block: settings.block,
                 t1: settings.t1,
                 t3: settings.t3,
-            }),
-        };
+            },
+        }),
     }
-    frame
 }
 
 impl Ends {
@@ -240,42 +304,7 @@ impl Ends {
         let r = c.send(message);
         let next = r.connection;
         self.from = next;
-        self.sends = true;
-        self.idle = false;
         self.done = false;
-        self
-    }
-
-    // The time between two data frames passes, and what is then due arrives; if nothing is, the other end is next.
-    fn turn(mut self, message: &[u8], buffer: &mut [u8]) -> Ends {
-        let c = self.from;
-        let phase = c.phase;
-        let settings = c.settings;
-        let e = c.elapse(GAP);
-        let c = e.connection;
-        let d = c.due(lent(message, self.sends));
-        let next = d.connection;
-        self.from = next;
-        if !d.given {
-            return self.idled();
-        }
-        let frame = d.frame;
-        let peer = self.to.settings.receive;
-        self.facing(phase)
-            .delivered(on_link(frame, phase, settings, peer), buffer)
-    }
-
-    fn idled(mut self) -> Ends {
-        self.done = self.idle;
-        self.idle = true;
-        self.swapped()
-    }
-
-    // An end that is not open yet gets the reply to its own request.
-    fn facing(self, phase: u8) -> Ends {
-        if phase < 3 {
-            return self.swapped();
-        }
         self
     }
 
@@ -284,22 +313,6 @@ impl Ends {
         let to = self.from;
         self.from = from;
         self.to = to;
-        self.sends = !self.sends;
-        self
-    }
-
-    fn delivered(mut self, frame: Frame, buffer: &mut [u8]) -> Ends {
-        let payload = frame.payload;
-        let bytes = payload.bytes;
-        let c = self.to;
-        let r = c.arrive(frame.id, telegram(&bytes, payload.len), buffer);
-        let done = r.told.said.done;
-        let next = r.connection;
-        self.to = next;
-        self.idle = false;
-        self.done = done;
-        let tally = self.tally;
-        self.tally = tally.with_frame(telegram(&bytes, payload.len));
         self
     }
 
