@@ -1,6 +1,6 @@
 // Cutting: a message as the data telegrams that carry it, one telegram a call.
 ghost use mathlib.Core.Path.{_≡_};
-ghost use Prim.Native.Nat.{_+_, _-_, _*_, min};
+ghost use Prim.Native.Nat.{_+_, _-_, _*_, min, max};
 ghost use lib.ListN.{length, getD};
 ghost use Rattle.telegram.specs.Cutting.{framesOf, streamOf, headerOf, asksAt, frameAt, declaredOf, longest};
 use crate::payload::Payload;
@@ -77,19 +77,24 @@ fn length_from(size: usize, at: usize) -> usize
     8
 }
 
+// A block size to divide by: 1 for none.
+fn divisor(block: u8) -> u32
+    ensures { λ r. ⌜ r ≡ max block 1 ⌝ }
+{
+    if block == 0 {
+        return 1;
+    }
+    block as u32
+}
+
 // Whether the telegram behind `place` others of a message of len bytes asks for an Ack.
 pub fn asks_at(block: u8, len: usize, place: u16) -> bool
     ensures { λ r. ⌜ r ≡ asksAt block len place ⌝ }
 {
-    let next = place as usize + 1;
-    let last = next == frames(len);
-    if block == 0 {
-        return last;
-    }
-    if next % (block as usize) == 0 {
-        return true;
-    }
-    last
+    let next = place as u32 + 1;
+    let last = next as usize == frames(len);
+    let full = (block != 0) & (next % divisor(block) == 0);
+    last | full
 }
 
 // The telegram behind `place` others of a message: for its block size, and the number of the message's first telegram.
