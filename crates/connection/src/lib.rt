@@ -43,13 +43,13 @@ pub struct Attempt {
 
 // The record. Phases: 0 closed, 1 C0 unanswered, 2 A0 unanswered, 3 open.
 pub struct Connection {
-    pub settings: Settings,
-    pub attempt: Attempt,
     // The transmit ID, from the D0 on; in a closed record that of the A8 that is due.
     pub transmit: u16,
     pub phase: u8,
     // Closed, with one A8 due.
     pub leaving: bool,
+    pub settings: Settings,
+    pub attempt: Attempt,
     pub channel: Channel,
 }
 

@@ -22,13 +22,14 @@ pub struct Message {
 
 // Where the receiver stands between two frames.
 pub struct Standing {
-    // The expected number.
-    pub expected: u8,
     // Throwing away, up to and including the next EOM.
     pub discarding: bool,
-    // The message begun, and how many of its bytes are in the buffer.
-    pub begun: Message,
+    // The expected number.
+    pub expected: u8,
+    // How many bytes of the message begun are in the buffer.
     pub fill: u16,
+    // The message begun.
+    pub begun: Message,
 }
 
 // An Ack that is due, fixed when it became due.

@@ -31,12 +31,12 @@ pub struct Terms {
 pub struct Sender {
     // Length of the message in sending; 0 is none.
     pub length: u16,
-    // Frames acknowledged.
-    pub acked: u16,
     // Frames ever handed over.
     pub high: u16,
     // The next frame to hand over.
     pub next: u16,
+    // Frames acknowledged.
+    pub acked: u16,
     // The number of the oldest unacknowledged frame.
     pub oldest: u8,
     // Repeats of the present block since its last progress.
