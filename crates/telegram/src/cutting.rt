@@ -1,7 +1,11 @@
 // Cutting: a message as the data telegrams that carry it, one telegram a call.
 ghost use mathlib.Core.Path.{_≡_};
 ghost use Prim.Native.Nat.{_+_, _-_, _*_, min, max};
-ghost use lib.ListN.{length, getD};
+ghost use mathlib.Core.List.{_∷_};
+ghost use lib.Dec.{ltb};
+ghost use lib.ListN.{length, take, drop, getD};
+ghost use Rattle.laws.specs.If.{if_then_else_};
+ghost use Rattle.telegram.specs.Outgoing.{written};
 ghost use Rattle.telegram.specs.Cutting.{framesOf, streamOf, headerOf, asksAt, frameAt, declaredOf, longest};
 use crate::payload::Payload;
 
@@ -102,16 +106,57 @@ pub fn frame(message: &[u8], block: u8, first: u8, place: u16) -> Payload
     ensures { λ r. ⌜ r ≡ frameAt (now (message .entry)) block first place ⌝ }
 {
     let len = message.len();
-    let size = len + 2;
     let k = place as usize;
-    let at = 7 * k;
     let number = first as usize + k;
     let last = k + 1 == frames(len);
     let asks = asks_at(block, len, place);
+    headed(message, header(asks, last, number), place)
+}
+
+// Where in the message the seven bytes stand that begin at a place of the length bytes and the message together; the message's
+// end for those that begin with the length bytes.
+fn piece_start(at: usize, len: usize) -> usize
+    ensures { λ r. ⌜ r ≡ (if ltb at 2 then len else at - 2) ⌝ }
+{
+    if at < 2 {
+        return len;
+    }
+    at - 2
+}
+
+// The telegram behind `place` others of a message, with its first byte. All but the first and the last take seven bytes of the
+// message: those are read with one test for all of them.
+fn headed(message: &[u8], head: u8, place: u16) -> Payload
+    ensures { λ r. ⌜ r ≡ written (head ∷ take 7 (drop (7 * place) (streamOf (now (message .entry))))) ⌝ }
+{
+    let b = piece_start(7 * (place as usize), message.len());
+    if message.len() < b + 7 {
+        return headed_end(message, head, place);
+    }
     Payload {
-        len: length_from(size, at),
+        len: 8,
         bytes: [
-            header(asks, last, number),
+            head,
+            message[b],
+            message[b + 1],
+            message[b + 2],
+            message[b + 3],
+            message[b + 4],
+            message[b + 5],
+            message[b + 6],
+        ],
+    }
+}
+
+// The same at any place, each byte read by itself.
+fn headed_end(message: &[u8], head: u8, place: u16) -> Payload
+    ensures { λ r. ⌜ r ≡ written (head ∷ take 7 (drop (7 * place) (streamOf (now (message .entry))))) ⌝ }
+{
+    let size = message.len() + 2;
+    Payload {
+        len: length_from(size, 7 * (place as usize)),
+        bytes: [
+            head,
             byte_at(message, place, 0),
             byte_at(message, place, 1),
             byte_at(message, place, 2),

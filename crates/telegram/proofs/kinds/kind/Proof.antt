@@ -1,7 +1,7 @@
 use mathlib.Core.Path.{refl}
 use borrow.Author.Needs.{needs}
 use borrow.Author.Tests.{ne-eqb}
-use Rattle.laws.proofs.Branches.{and-off′}
+use Rattle.laws.proofs.Branches.{and-off′, branches}
 use Rattle.telegram.specs.Kinds.{kindOf}
 use Rattle.telegram.proofs.kinds.kind.Statement.{statement}
 use Rattle.telegram.proofs.kinds.kind.Tie as tie
@@ -13,7 +13,7 @@ kind-spec =
     (tie.spec
     (λ c. rw (c .if1 .taken, and-off′ _ _ refl))
     (λ c. search needs)
-    (λ c. rw (c .if2 .taken))
+    (λ c. search branches depth 40 fits 8000)
     (λ c. rw (c .before .if3 .taken, and-off′ _ _ refl, c .if4 .taken))
     (λ c. rw (c .before .before .if3 .taken, c .if5 .taken))
     (λ c. rw (c .before .before .before .if3 .taken, c .if6 .taken))
