@@ -20,11 +20,11 @@ use telegram::kinds::write_test;
 use telegram::payload::Payload;
 use telegram::time::less;
 
-// What was agreed and set: the terms of sending, the test interval (0 is no tests) in tenths of a millisecond, the
-// unanswered tests allowed, and the fields of our own A0 and A1.
+// What was agreed and set: the test interval (0 is no tests) in tenths of a millisecond, the terms of sending, the unanswered
+// tests allowed, and the fields of our own A0 and A1.
 pub struct Parameters {
-    pub terms: Terms,
     pub interval: u32,
+    pub terms: Terms,
     pub allowed: u8,
     pub own: telegram::kinds::Parameters,
 }
@@ -44,9 +44,9 @@ pub struct Tests {
 }
 
 pub struct Channel {
-    pub parameters: Parameters,
     pub sender: Sender,
     pub tests: Tests,
+    pub parameters: Parameters,
     pub receiver: Receiver,
     // Our A1 is due, in answer to a test.
     pub accept: bool,

@@ -1,3 +1,4 @@
+use native.Mathlib.Omega.{arith}
 use borrow.Author.Needs.{needs}
 use Rattle.laws.proofs.Branches.{branches}
 use Rattle.channel.specs.Opened.{elapsed}
@@ -16,7 +17,7 @@ elapse-spec =
     (λ c κs. search needs)
     (λ c κs. search needs)
     (λ c. rw (c .went .ensures, c .before .later .ensures, ← c .before .before .before .before .before .before .before .pass .ensures, ← c .before .before .before .wait-ends .ensures) (search branches depth 40 fits 8000))
-    (λ c. search needs)
+    (λ c. omega (arith, c .before .before .before .before .before .before .before .before .before .before .good .0 .1 .1 .1 .1 .0))
     (λ c κs. search needs)
     (λ c κs. search needs)
     (λ c. rw (c .went2 .ensures, c .before .less .ensures, ← c .before .before .before .before .before .before .before .before .pass .ensures, ← c .before .before .before .before .wait-ends .ensures) (search branches depth 40 fits 8000))
