@@ -4,7 +4,7 @@ use native.Mathlib.Omega.{arith}
 use mathlib.Core.Bool.{true, not, _&&_, true≢false}
 use mathlib.Core.List.{List, []}
 use mathlib.Core.Logic.{_↔_}
-use mathlib.Core.Path.{_≡_, subst, ap, sym, _∙_}
+use mathlib.Core.Path.{_≡_, refl, subst, ap, sym, _∙_}
 use lib.Dec.{eqb}
 use lib.ListN.{length, getD}
 use borrow.Author.Tests.{ltb-true, eqb-true, eqb-false, not-true, eq-eqb, ne-eqb, lt-ltb}
@@ -79,3 +79,8 @@ module _ (t : Terms) (s : Sender) (m : List ℕ) where
   -- a frame is given exactly where one is due and its message is lent
   pub handed-exactly : handed t s m .note ≡ Frame ↔ (Due s × length m ≡ s .length)
   handed-exactly = (λ e. subst (Told s m) e handed-told, λ h. ap (λ (x : Handed). x .note) (handed-frame (h .0) (h .1)))
+
+-- a later block ends as the first does: in blocks of four, the frame behind 15 others of a message of 200 bytes asks for an Ack, and the wait starts
+pub later-block-waits : (advanced (record { t1 = 1000; t3 = 50; pause = 1000; block = 4; repeats = 5 }) (record { length = 200; high = 15; next = 15; acked = 12; oldest = 12; count = 0; wait = 0; hold = 0; gap = 0 })) .wait ≡ 1000
+unfolding framesOf
+later-block-waits = refl
