@@ -41,7 +41,8 @@ pub struct Attempt {
     pub repeats: u8,
 }
 
-// The record. Phases: 0 closed, 1 C0 unanswered, 2 A0 unanswered, 3 open.
+// The record. Phases: 0 closed, 1 C0 unanswered, 2 A0 unanswered, 3 open. The order of the fields, here and in the parts of the
+// channel, is for speed (docs/PERFORMANCE.md).
 pub struct Connection {
     // The transmit ID, from the D0 on; in a closed record that of the A8 that is due.
     pub transmit: u16,

@@ -259,7 +259,7 @@ impl Receiver {
         ensures { λ r. ⌜ r ≡ inOrder longest self asks last (now (payload .entry)) room ⌝ }
     {
         let brought = self.brought(payload);
-        let note = self.judged(last, brought, payload, room);
+        let note = self.verdict(last, brought, payload, room);
         Received {
             note,
             receiver: self.after(note, asks, last, brought),
@@ -288,7 +288,7 @@ impl Receiver {
     }
 
     // What becomes of a first or a later frame, in the order of the checks.
-    fn judged(self, last: bool, brought: Brought, payload: &[u8], room: usize) -> Receipt
+    fn verdict(self, last: bool, brought: Brought, payload: &[u8], room: usize) -> Receipt
         requires { ⌜ brought ≡ broughtBy self (now payload) ⌝ }
         ensures { λ r. ⌜ r ≡ (inOrder longest self false last (now (payload .entry)) room) .note ⌝ }
     {

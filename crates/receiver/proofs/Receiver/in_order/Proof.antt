@@ -11,4 +11,4 @@ in-order-spec =
     (λ c κs. search needs)
     (λ c κs. search needs)
     (λ c κs. search needs)
-    (λ c. in-two-steps _ _ _ _ _ _ (omega arith) (omega (arith, c .before .before .before .before)) _ _ _ (c .before .before .brought .ensures) (c .before .judged .ensures) (c .after .ensures)))
+    (λ c. in-two-steps _ _ _ _ _ _ (omega arith) (omega (arith, c .before .before .before .before)) _ _ _ (c .before .before .brought .ensures) (c .before .verdict .ensures) (c .after .ensures)))
