@@ -418,23 +418,32 @@ class Connection:
 
 # The console
 
-LINE = 16000            # characters in a line
+LINE = 16000            # characters in a line, without its end
 BUFFER = 4096
-WIDTHS = (65535, 255, 255, 255, 255, 65535, 255, 255, 65535, 65535, 255)    # of the settings, as they are typed
 TIME = 18446744073709551615
 DIGITS = frozenset(b"0123456789")
 HEX = frozenset(b"0123456789abcdefABCDEF")
+
+
+if hasattr(sys, "set_int_max_str_digits"):
+    sys.set_int_max_str_digits(0)       # a line is full of digits at most
 
 
 class Malformed(Exception):
     pass
 
 
-def decimal(word, most):
-    digits = word.lstrip(b"0") or b"0"
-    if not DIGITS.issuperset(word) or len(digits) > 20 or int(digits) > most:
+def decimal(word):
+    """A number of any length."""
+    if not word or not DIGITS.issuperset(word):
         raise Malformed
-    return int(digits)
+    return int(word)
+
+
+def at_most(most, number):
+    if number > most:
+        raise Malformed
+    return number
 
 
 def identifier(word):
@@ -468,6 +477,10 @@ def pairs(data):
     return data.hex(" ").upper()
 
 
+def without_return(line):
+    return line[:-1] if line.endswith(b"\r") else line
+
+
 class Console:
     def __init__(self, lines=0):
         self.lines = lines      # read so far
@@ -482,9 +495,12 @@ class Console:
     def lend(self, room):
         self.buffer = memoryview(self.storage)[:room]
 
-    def answer(self, line):
-        """The answer to one line (bytes, without its end), or None if it has none."""
+    def answer(self, line, ended=True):
+        """The answer to one line (bytes, without its LF), or None if it has none. A CR before the LF is of the line's
+        end; where the input ends without an LF, a CR is a character."""
         self.lines += 1
+        if ended:
+            line = without_return(line)
         try:
             if len(line) > LINE:
                 raise Malformed
@@ -506,7 +522,7 @@ class Console:
         elif name == b"due":
             result = connection.due(octets(words) if words else self.accepted)
         elif name == b"time":
-            result = connection.elapse(decimal(one(words), TIME))
+            result = connection.elapse(at_most(TIME, decimal(one(words))))
         elif name == b"send":
             message = octets(words)
             result = connection.send(message)
@@ -519,11 +535,11 @@ class Console:
             no_more(words)
             result = connection.close()
         elif name == b"open":
-            if words and len(words) != len(WIDTHS):
+            if words and len(words) != len(RANGES):
                 raise Malformed
-            result = connection.open(Settings(*map(decimal, words, WIDTHS)))
+            result = connection.open(Settings(*map(decimal, words)))
         elif name == b"room":
-            self.lend(decimal(one(words), BUFFER))
+            self.lend(at_most(BUFFER, decimal(one(words))))
             result = 0, None
         elif name == b"buffer":
             no_more(words)
@@ -656,10 +672,21 @@ class Car:
             self.next = self.oldest
 
 
+def answers(data):
+    """The answers to a whole input."""
+    console = Console()
+    *lines, last = data.split(b"\n")
+    said = [console.answer(line) for line in lines]
+    if last:
+        said.append(console.answer(last, False))
+    return [answer for answer in said if answer is not None]
+
+
 def main():
     console = Console()
     for line in sys.stdin.buffer:
-        answer = console.answer(line[:-1] if line.endswith(b"\n") else line)
+        ended = line.endswith(b"\n")
+        answer = console.answer(line[:-1] if ended else line, ended)
         if answer is not None:
             sys.stdout.write(answer + "\n")
             sys.stdout.flush()

@@ -4,8 +4,13 @@ import model
 from model import Settings, kind_of
 
 
+def name_of(line):
+    """The first word of a line that has one."""
+    return next(word for word in line.split(b" ") if word)
+
+
 def label(line, answer):
-    if line.split()[0] == b"buffer" and not answer.startswith("error"):
+    if name_of(line) == b"buffer" and not answer.startswith("error"):
         return "buffer"
     words = answer.split()
     if words[0] == "error":
@@ -13,8 +18,12 @@ def label(line, answer):
     if words[0] == "11" or words[-1] == "done":
         return answer
     if words[0] == "0" and len(words) > 1:
-        return "0 message" if line.split()[0] == b"take" else "0 frame"
+        return "0 message" if name_of(line) == b"take" else "0 frame"
     return words[0]
+
+
+# What the bytes of a setting can hold.
+WIDEST = (65535, 255, 255, 255, 255, 65535, 255, 255, 65535, 65535, 255)
 
 
 def near(value, limit):
@@ -29,16 +38,24 @@ def place_of(console, line):
         yield "A8 due, %s" % words[0].decode("latin-1")
     try:
         if words[0] == b"open" and len(words) == 12 and c.phase == "closed":
-            given = Settings(*map(int, words[1:]))
+            given = Settings(*map(model.decimal, words[1:]))
             for name, value, (low, high) in zip(given._fields, given, model.RANGES):
                 if value in (low - 1, low, high, high + 1):
                     yield "open %s %d" % (name, value)
             if given.t1 in (0x40, 0x41, 0x80, 0xC0, 0xC1):
                 yield "open t1 %d" % given.t1
+            for name, value, most in zip(given._fields, given, WIDEST):
+                if value > most:
+                    yield "open %s too wide" % name
+            if max(given) >= 2**64:
+                yield "open 64 bits and more"
+        elif words[0] == b"open" and len(words) == 12:
+            if max(map(model.decimal, words[1:])) >= 2**64:
+                yield "open 64 bits and more, %s" % c.phase
         elif words[0] == b"frame":
             yield from place_of_frame(console, model.identifier(words[1]), model.octets(words[2:]))
         elif words[0] == b"time":
-            span = model.decimal(words[1], model.TIME)
+            span = model.at_most(model.TIME, model.decimal(words[1]))
             for name, left in timers(c).items():
                 if near(span, left):
                     yield "time %s %s" % (name, near(span, left))
@@ -239,6 +256,11 @@ data in order False, message waits False, asks False: 12|break, back True, begun
 break, back True, begun to nothing, message waits False: 0|break, back True, thrown to nothing, message waits False: 0
 break, back True, thrown to begun, message waits False: 0|break, back True, thrown to thrown, message waits False: 0
 break, back False, nothing to nothing, message waits True: 0|carried to the car|carried to the box
+open rx too wide: 10|open unit too wide: 10|open block too wide: 10|open t1 too wide: 10|open t3 too wide: 10
+open te too wide: 10|open mntc too wide: 10|open repeats too wide: 10|open twait too wide: 10
+open interval too wide: 10|open tests too wide: 10|open 64 bits and more: 10|open 64 bits and more, setup: 4
+open 64 bits and more, parameters: 4|open 64 bits and more, open: 4|CR before LF|CR before LF, blank
+CR before LF, comment|CR twice: error|CR within: error|CR before LF, longest|CR before LF, too long: error
 """
 
 

@@ -3,11 +3,11 @@ are at the edge of a rule."""
 
 import model
 from model import Settings
-from reached import label, picture, place_of, timers
+from reached import WIDEST, label, name_of, picture, place_of, timers
 
 HUGE = (65535, 65536, 2**31, 2**32 - 1, 2**32, 2**63, model.TIME - 1, model.TIME, model.TIME, model.TIME)
 LENGTHS = (1, 1, 2, 4, 5, 6, 11, 12, 13, 26, 100, 102, 103, 104, 105, 110, 208, 209)
-BEYOND = tuple(width + 1 for width in model.WIDTHS)
+WIDE = (2**32, 2**64 - 1, 2**64, 2**64 + 1, 10**20, 2**128 + 1, 10**40, 10**400)      # above every setting
 
 
 class Play:
@@ -17,6 +17,7 @@ class Play:
         self.rng, self.tally, self.check = rng, tally, check
         self.console = model.Console(start)
         self.lines, self.expected = [], []
+        self.returns = rng.choice((0, 0, 0, 0, 0, 0, 0.5, 1))       # how many lines end in CR LF
         self.say("new")
 
     @property
@@ -26,11 +27,15 @@ class Play:
     def say(self, line):
         if type(line) is str:
             line = line.encode()
-        places = list(place_of(self.console, line)) if line.strip(b" ") and line[:1] != b"#" else []
+        if self.returns and self.rng.random() < self.returns:
+            line += b"\r"
         before = picture(self.console) if self.check else None
-        answer = self.console.answer(line)
-        self.lines.append(line)
+        sent, line = line, model.without_return(line)
+        places = list(place_of(self.console, line)) if line.strip(b" ") and line[:1] != b"#" else []
+        answer = self.console.answer(sent)
+        self.lines.append(sent)
         self.expected.append(answer)
+        self.count_returns(sent, answer)
         if answer is None:
             return None
         self.tally[label(line, answer)] += 1
@@ -41,10 +46,22 @@ class Play:
             self.left_alone(line, number, before)
         return answer
 
+    def count_returns(self, sent, answer):
+        """Where a CR stands, and what came of it."""
+        line = model.without_return(sent)
+        if sent != line:
+            self.tally["CR before LF" + (", comment" if line.startswith(b"#") else ", blank" if answer is None else "")] += 1
+            if len(line) == model.LINE:
+                self.tally["CR before LF, longest"] += 1
+            if len(line) == model.LINE + 1:
+                self.tally["CR before LF, too long: " + answer.split(" ")[0]] += 1
+        if answer is not None and b"\r" in line:
+            self.tally["CR %s: %s" % ("twice" if line.endswith(b"\r") else "within", answer.split(" ")[0])] += 1
+
     def left_alone(self, line, number, before):
         """What a refusal must not change."""
         after = picture(self.console)
-        frame = line.split()[0] == b"frame"
+        frame = name_of(line) == b"frame"
         later = type(dict(before[0][2]).get("course")) is tuple
         if number in ("1", "2", "3", "4", "6", "10", "error"):
             same = before == after
@@ -116,12 +133,12 @@ class Play:
         return chosen._replace(**fixed)
 
     def odd_settings(self):
-        """One setting at a limit or beyond it; what does not fit the width is malformed."""
+        """One setting at a limit or beyond it, by any number of digits."""
         chosen = list(Settings() if self.rng.random() < 0.5 else self.settings())
         at = self.rng.randrange(11)
         low, high = model.RANGES[at]
-        choices = [low, high, max(0, low - 1), high + 1, model.WIDTHS[at], BEYOND[at], BEYOND[at] + low, 2**32 + low,
-                   2**64 + low]
+        choices = [low, high, max(0, low - 1), high + 1, WIDEST[at], WIDEST[at] + 1, WIDEST[at] + 1 + low, 2**32 + low,
+                   2**64 + low, self.rng.choice(WIDE)]
         if Settings._fields[at] == "t1":
             choices += [0x00, 0x40, 0x80, 0xC0, 0x01, 0x41, 0x81, 0xC1]
         chosen[at] = self.rng.choice(choices)
@@ -193,7 +210,8 @@ class Play:
             self.frame(rng.choice((0x200, 0x201, 0x300, 0x740, 0x7FF, 0xFFFF, rng.randrange(0x10000))),
                        self.d0(tx) if setup else [0xA1, 15, 0x8A, 0xFF, 0x32, 0xFF])
         elif way == "call":
-            self.say(rng.choice(("send 10 89", "send -", "take", "open", "open 2048 1 15 138 50 1000 10 5 1000 0 5")))
+            self.say(rng.choice(("send 10 89", "send -", "take", "open", "open 2048 1 15 138 50 1000 10 5 1000 0 5",
+                                 "open 768 1 15 138 50 1000 10 5 1000 0 18446744073709551616")))
         elif way == "junk":
             self.junk()
         elif way == "close":
@@ -315,7 +333,7 @@ class Play:
         self.frame(ident, self.bytes(self.rng.randrange(13)))
 
     def idle(self):
-        self.say(self.rng.choice(("", " ", "    ", "#", "# words", "#new", "#" + "x" * 200)))
+        self.say(self.rng.choice(("", " ", "    ", "#", "# words", "#new", "#" + "x" * 200, "\r", " \r", "# words\r", "#\r#")))
 
     def odd_line(self):
         """A malformed line, or a good one that is oddly written."""
@@ -528,7 +546,8 @@ MALFORMED = (
     "frame 0x300 01", "frame x 01", "frame 3-0 01", "frame 300: 01", "send 0", "send 012", "send xx", "send - -",
     "send - 01", "send 01 -", "send --", "send 01 0", "due 0", "due zz", "due - -", "due 01 0G", "due 1 2", "@0 01",
     "`0", "/", ":", "frame 300 :0", "frame 300 /0", "frame 300 @0", "frame 300 `0", "frame 300 G0", "time :",
-    "time /", "room 1:")
+    "time /", "room 1:", "due\r\r", "\r\r", "take \r\r", "\rdue", "due\r ", "due \r -", "ti\rme 1", "time 1\r2", "time \r1",
+    "frame 300 A\r8", "new\r new", "\r#")
 
 SHORT = (1, 2, 5, 6, 12, 13, 26)
 LONG = (1, 103, 104, 400, 1019, 1023, 1024, 1024)
@@ -539,8 +558,8 @@ LONG = (1, 103, 104, 400, 1019, 1023, 1024, 1024)
 def limits(play):
     """Each setting at each limit, on both sides, and at each width."""
     for at, (low, high) in enumerate(model.RANGES):
-        values = {max(0, low - 1), low, low + 1, high - 1, high, high + 1, model.WIDTHS[at], BEYOND[at],
-                  2**32 + low, 2**64 + low}
+        values = {max(0, low - 1), low, low + 1, high - 1, high, high + 1, WIDEST[at], WIDEST[at] + 1,
+                  2**32 + low, 2**64 + low, *WIDE}
         if Settings._fields[at] == "t1":
             values |= {0x00, 0x40, 0x80, 0xC0, 0x41, 0x81, 0xC1}
         for value in sorted(values):

@@ -20,7 +20,7 @@ use Rattle.channel.specs.declared.Answer.{Answer}
 use Rattle.channel.specs.declared.Answer.the-variants.{Good, Done, Disconnected, Malformed as BadForm, BlockSize, NotDue, Busy, ShortBuffer, UsedUp, Broken, NoChange}
 use Rattle.channel.specs.declared.Answered.{Answered}
 use Rattle.channel.specs.Numbers.{said}
-use Rattle.channel.specs.Opened.{withSender, withReceiver, withTests, withAccept, quiet, restarted}
+use Rattle.channel.specs.Opened.{withSender, withReceiver, withTests, withAccept, noneOut, restarted}
 
 -- the answer to data: 0, or row 12, 5, 7 or 9
 abbrev pub dataAnswer : Receipt → Answer
@@ -69,7 +69,7 @@ unfoldable pub onAccept : Channel → Fields → Answered
 onAccept c p =
     if not (c .tests .out) then answered NotDue c
     else if badBlock (p .block) then answered BlockSize c
-    else answered Good (withTests c (quiet (c .tests .interval)))
+    else answered Good (withTests c (noneOut (c .tests .interval)))
 
 -- a sorted telegram with the bytes p behind its first, lent a buffer of room bytes; every A0 gives 4, and what is badly formed 1
 unfoldable pub arrived : (limit : ℕ) → Channel → Telegram → (p : List ℕ) → (room : ℕ) → Answered

@@ -1,27 +1,29 @@
--- What a call for a telegram gives, and leaves.
+-- What a call for a telegram gives, and leaves: the order, each outcome with what led to it, and what holds of them all.
 use Prim.Native.Nat.{ℕ, _≤_}
 use native.Mathlib.Omega.{arith}
 use mathlib.Core.Bool.{true, false, true≢false, false≢true}
 use mathlib.Core.List.{List}
-use mathlib.Core.Logic.{_⊎_, inl, inr}
 use mathlib.Core.Path.{_≡_, refl, sym}
-use lib.Dec.{eqb}
-use lib.ListN.{length, length-take}
 use Rattle.laws.proofs.Branches.{on, off}
-use Rattle.laws.proofs.Cases.{by, by-not}
-use Rattle.telegram.specs.Cutting.{frameAt}
+use Rattle.laws.proofs.Cases.{either}
+use Rattle.telegram.specs.Kinds.{ackOf, testOf, acceptOf}
 use Rattle.telegram.specs.declared.payload.Payload.{Payload}
-use Rattle.sender.specs.declared.Terms.{Terms}
 use Rattle.sender.specs.declared.Sender.{Sender}
 use Rattle.sender.specs.declared.Handed.{Handed}
 use Rattle.sender.specs.declared.Handing.{Handing}
-use Rattle.sender.specs.declared.Handing.the-variants.{Frame, Nothing, OtherLength}
-use Rattle.sender.specs.Sending.{unacknowledged, frameDue, handed}
+use Rattle.sender.specs.declared.Handing.the-variants.{Frame, Nothing, OtherLength as NotAccepted}
+use Rattle.sender.specs.Sending.{unacknowledged, handed}
+use Rattle.sender.proofs.Frames.{handed-sized}
+use Rattle.receiver.specs.Receiving.{ackHanded}
 use Rattle.channel.specs.declared.Answer.{Answer}
-use Rattle.channel.specs.declared.Answer.the-variants.{Good}
+use Rattle.channel.specs.declared.Answer.the-variants.{Good, OtherLength}
+use Rattle.channel.specs.declared.Tests.{Tests}
 use Rattle.channel.specs.declared.Channel.{Channel}
 use Rattle.channel.specs.declared.Due.{Due}
-use Rattle.channel.specs.Opened.{testDue, handNothing, handAccept, handTest, handAck, handBy, handData, due}
+use Rattle.channel.specs.Numbers.{closes}
+use Rattle.channel.specs.Opened.{withSender, withReceiver, withTests, withAccept, testDue, handOver, handNothing, handAccept, handTest, handAck, handBy, handData, due}
+
+-- ---- which telegram goes
 
 -- a test is never due while data is unacknowledged
 pub testDue-acknowledged : (c : Channel) → unacknowledged (c .sender) ≡ true → testDue c ≡ false
@@ -50,86 +52,88 @@ module _ (c : Channel) (m : List ℕ) where
   unfolding due handData
   due-data a t k = sym (off _ _ _ _ a (off _ _ _ _ t (off _ _ _ _ k refl)))
 
+-- a test that goes out: it waits T1
+abbrev pub testOut : Channel → Tests
+testOut c = record { out = true; again = false; wait = c .parameters .terms .t1; unanswered = c .tests .unanswered; interval = c .tests .interval }
+
+-- neither our A1 nor a test nor an Ack is due: it is the data's turn
+pub record DataTurn (c : Channel) : Type 0 where
+  pub accept : c .accept ≡ false
+  pub test : testDue c ≡ false
+  pub ack : c .receiver .ack .due ≡ false
+
+-- which telegram goes, in their order, and what that leaves; of data, by what the sending half finds
+pub data DueOutcome (c : Channel) : Handed → Due → Type 0 where
+  accept-goes : {h : Handed} → c .accept ≡ true → DueOutcome c h (handOver (withAccept c false) (acceptOf (c .parameters .own)))
+  test-goes : {h : Handed} → c .accept ≡ false → testDue c ≡ true → DueOutcome c h (handOver (withTests c (testOut c)) testOf)
+  ack-goes : {h : Handed} → c .accept ≡ false → testDue c ≡ false → c .receiver .ack .due ≡ true
+      → DueOutcome c h (handOver (withReceiver c (ackHanded (c .receiver))) (ackOf (c .receiver .ack .ready) (c .receiver .ack .number)))
+  frame-goes : {s : Sender} {p : Payload} → DataTurn c → DueOutcome c (record { note = Frame; sender = s; payload = p }) (handOver (withSender c s) p)
+  none-goes : {s : Sender} {p : Payload} → DataTurn c → DueOutcome c (record { note = Nothing; sender = s; payload = p }) (handNothing c Good)
+  other-length : {s : Sender} {p : Payload} → DataTurn c → DueOutcome c (record { note = NotAccepted; sender = s; payload = p }) (handNothing c OtherLength)
+
+data-turn : (c : Channel) → DataTurn c → (note : Handing) (s : Sender) (p : Payload)
+    → (let h : Handed = record { note = note; sender = s; payload = p } in DueOutcome c h (handBy c h note))
+data-turn c t Frame s p = frame-goes t
+data-turn c t Nothing s p = none-goes t
+data-turn c t NotAccepted s p = other-length t
+
+pub due-outcome : (c : Channel) (m : List ℕ) → DueOutcome c (handed (c .parameters .terms) (c .sender) m) (due c m)
+unfolding handAccept handTest handAck
+due-outcome c m =
+    let h = handed (c .parameters .terms) (c .sender) m in
+    either (c .accept) (λ a. rw (due-accept c m a) (accept-goes a)) λ a.
+    either (testDue c) (λ t. rw (due-test c m a t) (test-goes a t)) λ t.
+    either (c .receiver .ack .due) (λ k. rw (due-ack c m a t k) (ack-goes a t k)) λ k.
+    rw (due-data c m a t k) (data-turn c (record { accept = a; test = t; ack = k }) (h .note) (h .sender) (h .payload))
+
+-- ---- what every call gives
+
 -- a telegram of one to eight bytes
 pub record Sized (p : Payload) : Type 0 where
   pub some : 1 ≤ p .len
   pub most : p .len ≤ 8
 
--- what a hand-over leaves: the interval from its start, and at most one half changed
-pub record HandedOver (c d : Channel) : Type 0 where
-  pub interval : d .tests .interval ≡ c .parameters .interval
-  pub half : d .sender ≡ c .sender ⊎ d .receiver ≡ c .receiver
+-- a telegram, which restarts the interval, or nothing; and nothing is closed
+pub record Gives (c : Channel) (x : Due) : Type 0 where
+  pub sized : x .given ≡ true → Sized (x .payload)
+  pub none : x .given ≡ false → x ≡ handNothing c (x .answer)
+  pub restarts : x .given ≡ true → x .channel .tests .interval ≡ c .parameters .interval
+  pub goes-on : closes (x .answer) ≡ false
 
--- what a call gives: a telegram, or nothing
-pub data Gives (c : Channel) : Due → Type 0 where
-  one : {d : Channel} {p : Payload} → Sized p → HandedOver c d → Gives c (record { answer = Good; given = true; payload = p; channel = d })
-  none : {a : Answer} → Gives c (handNothing c a)
+module _ {c : Channel} where
+  gives-one : {d : Channel} (p : Payload) → d .tests .interval ≡ c .parameters .interval → Sized p
+      → Gives c (record { answer = Good; given = true; payload = p; channel = d })
+  gives-one p whole s = record { sized = λ _. s; none = λ e. absurd (true≢false e); restarts = λ _. whole; goes-on = refl }
 
--- where a frame is handed over, it is sized
-abbrev SizedBy : Payload → Handing → Type 0
-SizedBy p Frame = Sized p
-SizedBy p Nothing = Unit {0}
-SizedBy p OtherLength = Unit {0}
+  gives-none : (a : Answer) → closes a ≡ false → Gives c (handNothing c a)
+  gives-none a e = record { sized = λ e. absurd (false≢true e); none = λ _. refl; restarts = λ e. absurd (false≢true e); goes-on = e }
 
-handed-sized : (t : Terms) (s : Sender) (m : List ℕ) → SizedBy (handed t s m .payload) (handed t s m .note)
-unfolding handed frameAt
-handed-sized t s m =
-    by-not P (frameDue s) (λ _. tt) (λ _. by-not P (eqb (length m) (s .length)) (λ _. tt) (λ _. record { some = omega arith; most = simp length-take (omega arith) }))
-  where
-    P : Handed → Type 0
-    P h = SizedBy (h .payload) (h .note)
-
-handBy-gives : (c : Channel) (h : Handed) (note : Handing) → SizedBy (h .payload) note → Gives c (handBy c h note)
-handBy-gives c h Frame s = one s (record { interval = refl; half = inr refl })
-handBy-gives c h Nothing s = none
-handBy-gives c h OtherLength s = none
-
-pub due-gives : (c : Channel) (m : List ℕ) → Gives c (due c m)
-unfolding due handAccept handTest handAck handData
-due-gives c m =
-    let h = handed (c .parameters .terms) (c .sender) m in
-    by (Gives c) (c .accept) (λ _. one (omega arith) (record { interval = refl; half = inl refl }))
-    (λ _. by (Gives c) (testDue c) (λ _. one (omega arith) (record { interval = refl; half = inl refl }))
-    (λ _. by (Gives c) (c .receiver .ack .due) (λ _. one (omega arith) (record { interval = refl; half = inl refl }))
-    (λ _. handBy-gives c h (h .note) (handed-sized (c .parameters .terms) (c .sender) m))))
+  outcome-gives : {h : Handed} {x : Due} → (h .note ≡ Frame → Sized (h .payload)) → DueOutcome c h x → Gives c x
+  outcome-gives sized (accept-goes a) = gives-one (acceptOf (c .parameters .own)) refl (omega arith)
+  outcome-gives sized (test-goes a t) = gives-one testOf refl (omega arith)
+  outcome-gives sized (ack-goes a t k) = gives-one (ackOf (c .receiver .ack .ready) (c .receiver .ack .number)) refl (omega arith)
+  outcome-gives sized (frame-goes t) = gives-one _ refl (sized refl)
+  outcome-gives sized (none-goes t) = gives-none Good refl
+  outcome-gives sized (other-length t) = gives-none _ refl
 
 module _ (c : Channel) (m : List ℕ) where
+  due-gives : Gives c (due c m)
+  due-gives =
+      outcome-gives (λ e. let b = handed-sized (c .parameters .terms) (c .sender) m e in record { some = b .0; most = b .1 }) (due-outcome c m)
+
   -- a telegram given has one to eight bytes
   pub due-sized : due c m .given ≡ true → Sized (due c m .payload)
-  due-sized = go (due-gives c m)
-    where
-      go : {x : Due} → Gives c x → x .given ≡ true → Sized (x .payload)
-      go (one s d) e = s
-      go none e = absurd (false≢true e)
-
-  -- programs slice by the length: it is never over eight
-  pub due-most : due c m .payload .len ≤ 8
-  due-most = go (due-gives c m)
-    where
-      go : {x : Due} → Gives c x → x .payload .len ≤ 8
-      go (one s d) = s .most
-      go none = omega arith
+  due-sized = due-gives .sized
 
   -- nothing given means no bytes, and a channel as it was
   pub due-none : due c m .given ≡ false → due c m ≡ handNothing c (due c m .answer)
-  due-none = go (due-gives c m)
-    where
-      go : {x : Due} → Gives c x → x .given ≡ false → x ≡ handNothing c (x .answer)
-      go (one s d) e = absurd (true≢false e)
-      go none e = refl
+  due-none = due-gives .none
 
   -- a hand-over restarts the interval
   pub due-restarts : due c m .given ≡ true → due c m .channel .tests .interval ≡ c .parameters .interval
-  due-restarts = go (due-gives c m)
-    where
-      go : {x : Due} → Gives c x → x .given ≡ true → x .channel .tests .interval ≡ c .parameters .interval
-      go (one s d) e = d .interval
-      go none e = absurd (false≢true e)
+  due-restarts = due-gives .restarts
 
-  -- at most one half is changed
-  pub due-half : due c m .channel .sender ≡ c .sender ⊎ due c m .channel .receiver ≡ c .receiver
-  due-half = go (due-gives c m)
-    where
-      go : {x : Due} → Gives c x → x .channel .sender ≡ c .sender ⊎ x .channel .receiver ≡ c .receiver
-      go (one s d) = d .half
-      go none = inl refl
+  -- nothing is closed by it
+  pub due-goes-on : closes (due c m .answer) ≡ false
+  due-goes-on = due-gives .goes-on

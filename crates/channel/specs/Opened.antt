@@ -4,7 +4,7 @@ use mathlib.Core.Bool.{Bool, true, false, not, _&&_, _||_}
 use mathlib.Core.List.{List, []}
 use lib.Dec.{ltb, leb, eqb}
 use Rattle.laws.specs.If.{if_then_else_}
-use Rattle.telegram.specs.Outgoing.{written}
+use Rattle.telegram.specs.Outgoing.{payloadOf}
 use Rattle.telegram.specs.Kinds.{ackOf, testOf, acceptOf}
 use Rattle.telegram.specs.declared.payload.Payload.{Payload}
 use Rattle.sender.specs.Sending.{offered, passed, handed, unacknowledged, fresh as freshSender}
@@ -14,7 +14,7 @@ use Rattle.sender.specs.declared.Offer.the-variants.{Accepted, Busy as InSendin
 use Rattle.sender.specs.declared.Passing.{Passing}
 use Rattle.sender.specs.declared.Passing.the-variants.{Quiet, Again, UsedUp as RanOut}
 use Rattle.sender.specs.declared.Handing.{Handing}
-use Rattle.sender.specs.declared.Handing.the-variants.{Frame, Nothing as NoFrame, OtherLength}
+use Rattle.sender.specs.declared.Handing.the-variants.{Frame, Nothing as NoFrame, OtherLength as NotAccepted}
 use Rattle.sender.specs.declared.Handed.{Handed}
 use Rattle.receiver.specs.Receiving.{ackHanded, fresh as freshReceiver}
 use Rattle.receiver.specs.declared.Receiver.{Receiver}
@@ -22,13 +22,11 @@ use Rattle.channel.specs.declared.Parameters.{Parameters}
 use Rattle.channel.specs.declared.Tests.{Tests}
 use Rattle.channel.specs.declared.Channel.{Channel}
 use Rattle.channel.specs.declared.Answer.{Answer}
-use Rattle.channel.specs.declared.Answer.the-variants.{Good, Busy, BadLength, ShortBuffer, UsedUp}
+use Rattle.channel.specs.declared.Answer.the-variants.{Good, Busy, BadLength, OtherLength, UsedUp}
 use Rattle.channel.specs.declared.Answered.{Answered}
 use Rattle.channel.specs.declared.Due.{Due}
 
 -- ---- parts of a channel
-
--- a channel with another sending half, receiving half, state of the tests, and A1 due or not
 
 -- a channel with another sending half
 abbrev pub withSender : Channel → Sender → Channel
@@ -47,12 +45,12 @@ abbrev pub withAccept : Channel → Bool → Channel
 withAccept c a = record { parameters = c .parameters; sender = c .sender; receiver = c .receiver; tests = c .tests; accept = a }
 
 -- no test out or due and none unanswered, with what is left of the interval
-abbrev pub quiet : (interval : ℕ) → Tests
-quiet interval = record { out = false; again = false; wait = 0; unanswered = 0; interval = interval }
+abbrev pub noneOut : (interval : ℕ) → Tests
+noneOut interval = record { out = false; again = false; wait = 0; unanswered = 0; interval = interval }
 
 -- what the A1 that opens a channel leaves: nothing received, in sending or due, and the interval from its start
 abbrev pub fresh : Parameters → Channel
-fresh p = record { parameters = p; sender = freshSender; receiver = freshReceiver; tests = quiet (p .interval); accept = false }
+fresh p = record { parameters = p; sender = freshSender; receiver = freshReceiver; tests = noneOut (p .interval); accept = false }
 
 -- the interval starts again, by a frame handed over or answered 0
 abbrev pub restarted : Channel → Channel
@@ -75,8 +73,8 @@ abbrev pub ranOut : Tests → ℕ → Tests
 ranOut t n = record { out = t .out; again = true; wait = 0; unanswered = t .unanswered + 1; interval = t .interval - n }
 
 -- row 8; the channel is as it was, for the record above to close
-abbrev pub lost : Channel → Answered
-lost c = record { answer = UsedUp; channel = c }
+abbrev pub usedUp : Channel → Answered
+usedUp c = record { answer = UsedUp; channel = c }
 
 -- the timers ran on
 abbrev pub went : Channel → Sender → Tests → Answered
@@ -92,9 +90,9 @@ repeatsUsedUp RanOut = true
 unfoldable pub elapsed : Channel → ℕ → Answered
 elapsed c n =
     (let s = passed (c .parameters .terms) (c .sender) n in
-    if repeatsUsedUp (s .note) then lost c
+    if repeatsUsedUp (s .note) then usedUp c
     else if not (waitEnds (c .tests) n) then went c (s .sender) (later (c .tests) n)
-    else if leb (c .parameters .allowed) (c .tests .unanswered) then lost c
+    else if leb (c .parameters .allowed) (c .tests .unanswered) then usedUp c
     else went c (s .sender) (ranOut (c .tests) n))
 
 -- ---- a frame is asked for
@@ -111,7 +109,7 @@ handOver c p = record { answer = Good; given = true; payload = p; channel = rest
 
 -- nothing handed over: nothing is due, or row 7
 abbrev pub handNothing : Channel → Answer → Due
-handNothing c a = record { answer = a; given = false; payload = written []; channel = c }
+handNothing c a = record { answer = a; given = false; payload = payloadOf []; channel = c }
 
 -- our A1, with the fields of our A0
 unfoldable pub handAccept : Channel → Due
@@ -132,7 +130,7 @@ handAck c = handOver (withReceiver c (ackHanded (c .receiver))) (ackOf (c .recei
 abbrev pub handBy : Channel → Handed → Handing → Due
 handBy c h Frame = handOver (withSender c (h .sender)) (h .payload)
 handBy c h NoFrame = handNothing c Good
-handBy c h OtherLength = handNothing c ShortBuffer
+handBy c h NotAccepted = handNothing c OtherLength
 
 -- the data that is due, of the lent message
 unfoldable pub handData : Channel → List ℕ → Due

@@ -1,8 +1,9 @@
 // An open channel: both halves, the tests that keep it alive, and what is handed over first. The same at either end.
 //
-// It gives payloads and knows no CAN identifier, no padding and no opening; what a telegram that arrives does is said in
-// `arrival`. Where the channel is lost (`UsedUp`) or the peer leaves (`Disconnected`) the answer says so, for the record
-// above to close.
+// It gives payloads and knows no CAN identifier, no padding and no opening. What a telegram that arrives does to it is
+// `arrival::arrive`, a free function in a crate of its own, so that each of the two is checked in a short time. Where the
+// repeats or tests are used up (`UsedUp`) or the peer leaves (`Disconnected`) the answer says so, for the record above to
+// close.
 ghost use mathlib.Core.Path.{_≡_};
 ghost use Rattle.telegram.specs.Cutting.{longest};
 ghost use Rattle.channel.specs.Numbers.{plain, said};
@@ -43,6 +44,7 @@ pub struct Tests {
     pub unanswered: u8,
 }
 
+// The channel. Its calls stand below, but for the arrival of a telegram: `arrival::arrive`.
 pub struct Channel {
     pub sender: Sender,
     pub tests: Tests,
@@ -66,8 +68,10 @@ pub enum Answer {
     // A message is unfinished, or one waits untaken.
     Busy,
     BadLength,
-    // The lent buffer is shorter than the declared length, or the lent message is not of the accepted one.
+    // The lent buffer is shorter than the declared length.
     ShortBuffer,
+    // The lent message is not of the accepted length.
+    OtherLength,
     // Repeats or tests are used up.
     UsedUp,
     Broken(Cause),
@@ -76,11 +80,11 @@ pub enum Answer {
 }
 
 // What an answer says: its number in the protocol's table, whether it says that the message in sending is done, and whether
-// the peer has left.
+// the peer has disconnected.
 pub struct Said {
     pub number: u8,
     pub done: bool,
-    pub left: bool,
+    pub disconnected: bool,
 }
 
 // What a call answers, and the channel that it leaves.
@@ -104,7 +108,7 @@ fn plain(number: u8) -> Said
     Said {
         number,
         done: false,
-        left: false,
+        disconnected: false,
     }
 }
 
@@ -117,12 +121,12 @@ pub fn say(answer: Answer) -> Said
         Answer::Done => Said {
             number: 0,
             done: true,
-            left: false,
+            disconnected: false,
         },
         Answer::Disconnected => Said {
             number: 0,
             done: false,
-            left: true,
+            disconnected: true,
         },
         Answer::Malformed => plain(1),
         Answer::BlockSize => plain(2),
@@ -130,6 +134,7 @@ pub fn say(answer: Answer) -> Said
         Answer::Busy => plain(5),
         Answer::BadLength => plain(6),
         Answer::ShortBuffer => plain(7),
+        Answer::OtherLength => plain(7),
         Answer::UsedUp => plain(8),
         Answer::Broken(_) => plain(9),
         Answer::NoChange => plain(12),
@@ -343,7 +348,7 @@ impl Channel {
                 self.hand_over(payload)
             }
             Handing::Nothing => self.hand_nothing(Answer::Good),
-            Handing::OtherLength => self.hand_nothing(Answer::ShortBuffer),
+            Handing::OtherLength => self.hand_nothing(Answer::OtherLength),
         }
     }
 

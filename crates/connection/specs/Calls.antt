@@ -1,15 +1,13 @@
 -- 01, "The record and its calls", "Opening" and "Numbers we answer with": what each call answers and leaves.
 use Prim.Native.Nat.{ℕ, _+_, _-_}
 use mathlib.Core.Bool.{Bool, true, false, not, _&&_, _||_}
-use mathlib.Core.List.{List, []}
-use lib.ListN.{length, take, drop}
+use mathlib.Core.List.{List}
+use lib.ListN.{length, take}
 use lib.Dec.{ltb, leb, eqb}
 use denote.Ref.{RefT, now}
 use Rattle.laws.specs.If.{if_then_else_}
-use Rattle.telegram.specs.Outgoing.{written}
-use Rattle.opening.specs.Opening.{requestOf, replyRead}
+use Rattle.opening.specs.Opening.{requestId, requestOf, replyRead}
 use Rattle.telegram.specs.Kinds.{badBlock, sorted, setupOf, disconnectOf}
-use Rattle.telegram.specs.declared.payload.Payload.{Payload}
 use Rattle.opening.specs.declared.Reply.{Reply}
 use Rattle.opening.specs.declared.Reply.the-variants.{Positive, Refused as RefusedBy, Malformed as NoReply}
 use Rattle.telegram.specs.declared.kinds.Parameters.{Parameters as Fields}
@@ -17,49 +15,46 @@ use Rattle.telegram.specs.declared.kinds.Telegram.{Telegram}
 use Rattle.telegram.specs.declared.kinds.Telegram.the-variants.{Data, Ack, Test, Break, Disconnect, Setup, Accept, Malformed as NoTelegram}
 use Rattle.settings.specs.Settings.{allowed}
 use Rattle.settings.specs.declared.Settings.{Settings}
-use Rattle.channel.specs.declared.Channel.{Channel}
 use Rattle.channel.specs.declared.Answer.{Answer as ChannelAnswer}
-use Rattle.channel.specs.Numbers.{said as channelSaid}
-use Rattle.receiver.specs.Receiving.{took}
-use Rattle.receiver.specs.declared.Took.{Took}
-use Rattle.receiver.specs.declared.Taking.{Taking}
-use Rattle.receiver.specs.declared.Taking.the-variants.{Shown, NoneComplete, ShortBuffer as ShortRoom}
-use Rattle.channel.specs.Opened.{withReceiver, elapsed as channelElapsed, due as channelDue, sent as channelSent}
-use Rattle.arrival.specs.Arrived.{bufferedBy, arrived as channelArrived}
-use Rattle.connection.specs.declared.Attempt.{Attempt}
+use Rattle.channel.specs.declared.Answer.the-variants.{Good, Disconnected, Malformed, BlockSize, NotDue, UsedUp}
+use Rattle.open_end.specs.declared.answers.Answer.the-variants.{Channel, OtherId, OutOfRange, Refused}
+use Rattle.open_end.specs.declared.answers.Told.{Told}
+use Rattle.open_end.specs.Answers.{told}
+use Rattle.open_end.specs.declared.Frame.{Frame}
+use Rattle.open_end.specs.declared.OpenEnd.{OpenEnd}
+use Rattle.open_end.specs.declared.Course.{Course}
+use Rattle.open_end.specs.declared.Course.the-variants.{GoesOn, GivenUp, Leaves}
+use Rattle.open_end.specs.OpenEnd.{noFrame, courseOf, arrivedAt, bufferedAt, elapsedAt, dueAt, sentAt, takenAt}
+use Rattle.connection.specs.declared.attempt.Attempt.{Attempt}
 use Rattle.connection.specs.declared.Connection.{Connection}
-use Rattle.connection.specs.declared.Answer.{Answer}
-use Rattle.connection.specs.declared.Answer.the-variants.{Good, Done, Malformed, BlockSize, OtherId, NotDue, Busy, BadLength, ShortBuffer, UsedUp, Broken, OutOfRange, Refused, NoChange}
-use Rattle.connection.specs.declared.Told.{Told}
-use Rattle.connection.specs.declared.Frame.{Frame}
 use Rattle.connection.specs.declared.Answered.{Answered}
+use Rattle.connection.specs.declared.Arrived.{Arrived}
 use Rattle.connection.specs.declared.Due.{Due}
 use Rattle.connection.specs.declared.TakeStep.{TakeStep}
 use Rattle.connection.specs.declared.Taken.{Taken}
-use Rattle.connection.specs.Numbers.{told, passedOn}
-use Rattle.connection.specs.Record.{requestId, isClosed, isRequesting, isAgreeing, isOpen, closedRecord, leavingOn, requesting, agreeing, ownFields, opened, withAttempt, withChannel, hears}
+use Rattle.connection.specs.Record.{isClosed, isRequesting, isAgreeing, isOpen, closedRecord, leavingOn, requesting, agreeing, ownFields, opened, withAttempt, withOpenEnd, hears}
 
 -- ---- what a call gives
 
--- an answer with what it says, and the record left
-abbrev pub gives : Answer → Connection → Answered
-gives a c = record { told = told a; connection = c }
+-- an answer that an open channel gives too, with what it says, and the record left
+abbrev pub gives : ChannelAnswer → Connection → Answered
+gives a c = record { told = told (Channel a); connection = c }
 
--- no frame
-abbrev pub noFrame : Frame
-noFrame = record { id = 0; payload = written [] }
+-- the same for a frame that arrives
+abbrev pub brings : ChannelAnswer → Connection → Arrived
+brings a c = record { told = told (Channel a); connection = c }
 
--- the same with a frame handed over
-abbrev pub handOver : Answer → Frame → Connection → Due
-handOver a f c = record { told = told a; given = true; frame = f; connection = c }
+-- 0 with a frame handed over
+abbrev pub handOver : Frame → Connection → Due
+handOver f c = record { told = told (Channel Good); given = true; frame = f; connection = c }
 
--- the same with no frame
-abbrev pub handNothing : Answer → Connection → Due
-handNothing a c = record { told = told a; given = false; frame = noFrame; connection = c }
+-- 0 with no frame
+abbrev pub handNothing : Connection → Due
+handNothing c = record { told = told (Channel Good); given = false; frame = noFrame; connection = c }
 
--- the same with the length of what a take shows
-abbrev pub shows : Answer → (len : ℕ) → Connection → TakeStep
-shows a len c = record { told = told a; len = len; connection = c }
+-- an answer with the length of what a take shows
+abbrev pub shows : ChannelAnswer → (len : ℕ) → Connection → TakeStep
+shows a len c = record { told = told (Channel a); len = len; connection = c }
 
 -- ---- open
 
@@ -67,55 +62,56 @@ shows a len c = record { told = told a; len = len; connection = c }
 unfoldable pub opening : Connection → Settings → Answered
 opening c s =
     if not (isClosed c) then gives NotDue c
-    else if not (allowed s) then gives OutOfRange c
+    else if not (allowed s) then record { told = told OutOfRange; connection = c }
     else gives Good (requesting s)
 
 -- ---- a frame arrives
 
 -- while the D0 is awaited: 1, then 4 before the C0 was ever handed over; a refusal closes with nothing due
-unfoldable pub onReply : Connection → Reply → Answered
-onReply c NoReply = gives Malformed c
+unfoldable pub onReply : Connection → Reply → Arrived
+onReply c NoReply = brings Malformed c
 onReply c (RefusedBy opcode) =
-    if not (c .attempt .asked) then gives NotDue c
-    else gives (Refused opcode) closedRecord
+    if not (c .attempt .asked) then brings NotDue c
+    else record { told = told (Refused opcode); connection = closedRecord }
 onReply c (Positive transmit) =
-    if not (c .attempt .asked) then gives NotDue c
-    else gives Good (agreeing c transmit)
+    if not (c .attempt .asked) then brings NotDue c
+    else brings Good (agreeing c transmit)
 
 -- the A1 that is awaited: 4 before the A0 was ever handed over, then 2 for its block size byte
-unfoldable pub onAccept : Connection → Fields → Answered
+unfoldable pub onAccept : Connection → Fields → Arrived
 onAccept c p =
-    if not (c .attempt .asked) then gives NotDue c
-    else if badBlock (p .block) then gives BlockSize c
-    else gives Good (opened c p)
+    if not (c .attempt .asked) then brings NotDue c
+    else if badBlock (p .block) then brings BlockSize c
+    else brings Good (opened c p)
 
 -- while the A1 is awaited only A1 and A8 are due kinds: 1, then 4; a disconnect leaves one A8 due
-unfoldable pub onAgreeing : Connection → Telegram → Answered
+unfoldable pub onAgreeing : Connection → Telegram → Arrived
 onAgreeing c (Accept p) = onAccept c p
-onAgreeing c Disconnect = gives Good (leavingOn (c .transmit))
-onAgreeing c NoTelegram = gives Malformed c
-onAgreeing c (Data asks last number) = gives NotDue c
-onAgreeing c (Ack ready number) = gives NotDue c
-onAgreeing c Test = gives NotDue c
-onAgreeing c Break = gives NotDue c
-onAgreeing c (Setup p) = gives NotDue c
+onAgreeing c Disconnect = brings Disconnected (leavingOn (c .end .transmit))
+onAgreeing c NoTelegram = brings Malformed c
+onAgreeing c (Data asks last number) = brings NotDue c
+onAgreeing c (Ack ready number) = brings NotDue c
+onAgreeing c Test = brings NotDue c
+onAgreeing c Break = brings NotDue c
+onAgreeing c (Setup p) = brings NotDue c
 
--- what an open channel's answer leaves: 8 closes with nothing due, a disconnect with one A8 due
-unfoldable pub settled : Connection → ChannelAnswer → Channel → Connection
-settled c a ch =
-    if eqb (channelSaid a .number) 8 then closedRecord else if channelSaid a .left then leavingOn (c .transmit) else withChannel c ch
+-- what an answer of the open end leaves: the record goes on, or is closed with nothing or with one A8 due
+unfoldable pub settled : Connection → Course → OpenEnd → Connection
+settled c GoesOn e = withOpenEnd c e
+settled c GivenUp e = closedRecord
+settled c Leaves e = leavingOn (c .end .transmit)
 
--- on an open connection the channel answers
-unfoldable pub onOpen : (limit : ℕ) → Connection → (s : List ℕ) → (room : ℕ) → Answered
+-- on an open connection the end answers
+unfoldable pub onOpen : (limit : ℕ) → Connection → (s : List ℕ) → (room : ℕ) → Arrived
 onOpen limit c s room =
-    (let r = channelArrived limit (c .channel) (sorted s .kind) (drop 1 s) room in
-    gives (passedOn (r .answer)) (settled c (r .answer) (r .channel)))
+    (let r = arrivedAt limit (c .end) s room in
+    brings (r .answer) (settled c (courseOf (r .answer)) (r .end)))
 
 -- a frame with the bytes s, lent a buffer of room bytes: 4 if closed, then 3, then by the phase
-unfoldable pub arrived : (limit : ℕ) → Connection → (id : ℕ) → (s : List ℕ) → (room : ℕ) → Answered
+unfoldable pub arrived : (limit : ℕ) → Connection → (id : ℕ) → (s : List ℕ) → (room : ℕ) → Arrived
 arrived limit c id s room =
-    if isClosed c then gives NotDue c
-    else if not (hears c id) then gives OtherId c
+    if isClosed c then brings NotDue c
+    else if not (hears c id) then record { told = told OtherId; connection = c }
     else if isRequesting c then onReply c (replyRead s (c .settings .receive))
     else if isAgreeing c then onAgreeing c (sorted s .kind)
     else onOpen limit c s room
@@ -124,7 +120,7 @@ arrived limit c id s room =
 unfoldable pub buffered : (limit : ℕ) → Connection → (id : ℕ) → (s b : List ℕ) → List ℕ
 buffered limit c id s b =
     if isClosed c || not (hears c id) || isRequesting c || isAgreeing c then b
-    else bufferedBy limit (c .channel) (sorted s .kind) (drop 1 s) b
+    else bufferedAt limit (c .end) s b
 
 -- ---- time passes
 
@@ -141,80 +137,69 @@ unfoldable pub attemptElapsed : Connection → ℕ → Answered
 attemptElapsed c n =
     if eqb (c .attempt .wait) 0 then gives Good c
     else if ltb n (c .attempt .wait) then gives Good (withAttempt c (waitsOn (c .attempt) n))
-    else if leb (c .settings .requests) (c .attempt .repeats) then gives UsedUp closedRecord
+    else if leb (c .settings .mntc) (c .attempt .repeats) then gives UsedUp closedRecord
     else gives Good (withAttempt c (repeatDue (c .attempt)))
+
+-- on an open connection the end's timers run
+unfoldable pub openElapsed : Connection → ℕ → Answered
+openElapsed c n = (let r = elapsedAt (c .end) n in gives (r .answer) (settled c (courseOf (r .answer)) (r .end)))
 
 -- good in every state; 8 where repeats, opening repeats or tests are used up
 unfoldable pub elapsed : Connection → ℕ → Answered
 elapsed c n =
     if isClosed c then gives Good c
     else if not (isOpen c) then attemptElapsed c n
-    else
-    (let r = channelElapsed (c .channel) n in
-    gives (passedOn (r .answer)) (settled c (r .answer) (r .channel)))
+    else openElapsed c n
 
 -- ---- what is due
 
 -- a request handed over: T_E runs from now
 abbrev pub attemptOut : Connection → Attempt
-attemptOut c = record { due = false; asked = true; wait = c .settings .reply; repeats = c .attempt .repeats }
+attemptOut c = record { due = false; asked = true; wait = c .settings .«t_e»; repeats = c .attempt .repeats }
 
 -- a closed record's one A8
 unfoldable pub closedDue : Connection → Due
 closedDue c =
-    if not (c .leaving) then handNothing Good c
-    else handOver Good (record { id = c .transmit; payload = disconnectOf }) closedRecord
+    if not (c .leaving) then handNothing c
+    else handOver (record { id = c .end .transmit; payload = disconnectOf }) closedRecord
 
 -- the request of the opening, on its ID
 unfoldable pub requestDue : Connection → Frame → Due
 requestDue c f =
-    if not (c .attempt .due) then handNothing Good c
-    else handOver Good f (withAttempt c (attemptOut c))
+    if not (c .attempt .due) then handNothing c
+    else handOver f (withAttempt c (attemptOut c))
 
--- an open channel's frame goes out on the transmit ID
+-- what an open end has due
 unfoldable pub openDue : Connection → List ℕ → Due
 openDue c m =
-    (let d = channelDue (c .channel) m in
-    if not (d .given) then handNothing (passedOn (d .answer)) (withChannel c (d .channel))
-    else handOver (passedOn (d .answer)) (record { id = c .transmit; payload = d .payload }) (withChannel c (d .channel)))
+    (let d = dueAt (c .end) m in
+    record { told = told (Channel (d .answer)); given = d .given; frame = d .frame; connection = withOpenEnd c (d .end) })
 
--- at most one frame: a closed record's A8, the C0 from 0x200, the A0, or what the channel has due
+-- at most one frame: a closed record's A8, the C0, the A0, or what the open end has due
 unfoldable pub dueOf : Connection → List ℕ → Due
 dueOf c m =
     if isClosed c then closedDue c
     else if isRequesting c then requestDue c (record { id = requestId; payload = requestOf (c .settings .unit) (c .settings .receive) })
-    else if isAgreeing c then requestDue c (record { id = c .transmit; payload = setupOf (ownFields (c .settings)) })
+    else if isAgreeing c then requestDue c (record { id = c .end .transmit; payload = setupOf (ownFields (c .settings)) })
     else openDue c m
 
 -- ---- send, take and close
 
+-- an open end is offered a message of n bytes
+unfoldable pub openSent : (limit : ℕ) → Connection → ℕ → Answered
+openSent limit c n = (let r = sentAt limit (c .end) n in gives (r .answer) (withOpenEnd c (r .end)))
+
 -- send: 4 unless open, then 5, 6
 unfoldable pub sentBy : (limit : ℕ) → Connection → ℕ → Answered
-sentBy limit c n =
-    if not (isOpen c) then gives NotDue c
-    else
-    (let r = channelSent limit (c .channel) n in
-    gives (passedOn (r .answer)) (withChannel c (r .channel)))
+sentBy limit c n = if not (isOpen c) then gives NotDue c else openSent limit c n
 
--- the answer to a take
-abbrev pub takeAnswer : Taking → Answer
-takeAnswer Shown = Good
-takeAnswer NoneComplete = Busy
-takeAnswer ShortRoom = ShortBuffer
-
--- the length of what a take shows, of a complete message of n bytes
-abbrev pub lengthShown : Taking → ℕ → ℕ
-lengthShown Shown n = n
-lengthShown NoneComplete n = 0
-lengthShown ShortRoom n = 0
+-- an open end's message is taken
+unfoldable pub openTaken : Connection → (room : ℕ) → TakeStep
+openTaken c room = (let t = takenAt (c .end) room in shows (t .answer) (t .len) (withOpenEnd c (t .end)))
 
 -- take, lent a buffer of room bytes: 4 unless open, then 5, 7
 unfoldable pub takenBy : Connection → (room : ℕ) → TakeStep
-takenBy c room =
-    if not (isOpen c) then shows NotDue 0 c
-    else
-    (let t = took (c .channel .receiver) room in
-    shows (takeAnswer (t .note)) (lengthShown (t .note) (c .channel .receiver .complete .length)) (withChannel c (withReceiver (c .channel) (t .receiver))))
+takenBy c room = if not (isOpen c) then shows NotDue 0 c else openTaken c room
 
 -- what a caller sees of a take: where the message's first byte lies, and its bytes
 pub record Look : Type 0 where
@@ -238,4 +223,4 @@ unfoldable pub closed : Connection → Answered
 closed c =
     if isClosed c then gives NotDue c
     else if isRequesting c then gives Good closedRecord
-    else gives Good (leavingOn (c .transmit))
+    else gives Good (leavingOn (c .end .transmit))

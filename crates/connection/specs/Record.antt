@@ -6,29 +6,42 @@ use mathlib.Core.Option.{Option, none, some}
 use Rattle.laws.specs.If.{if_then_else_}
 use Rattle.telegram.specs.Time.{tenthsOf}
 use Rattle.telegram.specs.declared.kinds.Parameters.{Parameters as Fields}
+use Rattle.opening.specs.Opening.{requestId}
 use Rattle.settings.specs.Settings.{defaults}
 use Rattle.settings.specs.declared.Settings.{Settings}
 use Rattle.channel.specs.declared.Parameters.{Parameters}
-use Rattle.channel.specs.declared.Channel.{Channel}
-use Rattle.channel.specs.Opened.{fresh}
-use Rattle.connection.specs.declared.Attempt.{Attempt}
+use Rattle.open_end.specs.OpenEnd.{unopened, freshEnd}
+use Rattle.open_end.specs.declared.OpenEnd.{OpenEnd}
+use Rattle.connection.specs.declared.attempt.Attempt.{Attempt}
 use Rattle.connection.specs.declared.Connection.{Connection}
 
--- the CAN ID of every request
-abbrev pub requestId : ℕ
-requestId = 0x200
-
 -- the phase of a closed record
-abbrev pub isClosed : Connection → Bool
-isClosed c = eqb (c .phase) 0
+abbrev pub phaseClosed : ℕ
+phaseClosed = 0
 
 -- the C0 is unanswered
-abbrev pub isRequesting : Connection → Bool
-isRequesting c = eqb (c .phase) 1
+abbrev pub phaseRequesting : ℕ
+phaseRequesting = 1
 
 -- the A0 is unanswered
+abbrev pub phaseAgreeing : ℕ
+phaseAgreeing = 2
+
+-- open
+abbrev pub phaseOpen : ℕ
+phaseOpen = 3
+
+-- a record is closed
+abbrev pub isClosed : Connection → Bool
+isClosed c = eqb (c .phase) phaseClosed
+
+-- its C0 is unanswered
+abbrev pub isRequesting : Connection → Bool
+isRequesting c = eqb (c .phase) phaseRequesting
+
+-- its A0 is unanswered
 abbrev pub isAgreeing : Connection → Bool
-isAgreeing c = eqb (c .phase) 2
+isAgreeing c = eqb (c .phase) phaseAgreeing
 
 -- open: none of these
 abbrev pub isOpen : Connection → Bool
@@ -42,35 +55,22 @@ noAttempt = record { due = false; asked = false; wait = 0; repeats = 0 }
 abbrev pub newAttempt : Attempt
 newAttempt = record { due = true; asked = false; wait = 0; repeats = 0 }
 
--- the channel of a record that is not open
-abbrev pub noChannel : Channel
-noChannel =
-    fresh
-    (record {
-      terms = record { block = 0; t1 = 0; t3 = 0; repeats = 0; pause = 0 };
-      interval = 0;
-      allowed = 0;
-      own = record { block = 0; t1 = 0; t3 = 0 };
-    })
-
 -- a closed connection, had without any input: nothing due
 abbrev pub closedRecord : Connection
-closedRecord =
-    record { phase = 0; settings = defaults; transmit = 0; attempt = noAttempt; leaving = false; channel = noChannel }
+closedRecord = record { phase = phaseClosed; settings = defaults; attempt = noAttempt; leaving = false; end = unopened 0 0 }
 
 -- a closed connection with one A8 due on a transmit ID
 abbrev pub leavingOn : ℕ → Connection
-leavingOn transmit =
-    record { phase = 0; settings = defaults; transmit = transmit; attempt = noAttempt; leaving = true; channel = noChannel }
+leavingOn transmit = record { phase = phaseClosed; settings = defaults; attempt = noAttempt; leaving = true; end = unopened transmit 0 }
 
 -- opening: the C0 is due
 abbrev pub requesting : Settings → Connection
-requesting s = record { phase = 1; settings = s; transmit = 0; attempt = newAttempt; leaving = false; channel = noChannel }
+requesting s = record { phase = phaseRequesting; settings = s; attempt = newAttempt; leaving = false; end = unopened 0 0 }
 
--- the D0 named the transmit ID: the A0 is due
+-- the D0 named the transmit ID: the A0 is due, and we listen on our receive ID
 abbrev pub agreeing : Connection → ℕ → Connection
 agreeing c transmit =
-    record { phase = 2; settings = c .settings; transmit = transmit; attempt = newAttempt; leaving = false; channel = noChannel }
+    record { phase = phaseAgreeing; settings = c .settings; attempt = newAttempt; leaving = false; end = unopened transmit (c .settings .receive) }
 
 -- the fields of our own A0 and A1
 abbrev pub ownFields : Settings → Fields
@@ -80,9 +80,9 @@ ownFields s = record { block = s .block; t1 = s .t1; t3 = s .t3 }
 abbrev pub agreed : Settings → Fields → Parameters
 agreed s p =
     record {
-      terms = record { block = min (s .block) (p .block); t1 = tenthsOf (s .t1); t3 = tenthsOf (p .t3); repeats = s .repeats; pause = s .pause };
-      interval = s .interval;
-      allowed = s .tests;
+      terms = record { block = min (s .block) (p .block); t1 = tenthsOf (s .t1); t3 = tenthsOf (p .t3); repeats = s .mntb; «t_wait» = s .«t_wait» };
+      interval = s .«t_ct»;
+      allowed = s .mnct;
       own = ownFields s;
     }
 
@@ -90,30 +90,27 @@ agreed s p =
 abbrev pub opened : Connection → Fields → Connection
 opened c p =
     record {
-      phase = 3;
+      phase = phaseOpen;
       settings = c .settings;
-      transmit = c .transmit;
       attempt = noAttempt;
       leaving = false;
-      channel = fresh (agreed (c .settings) p);
+      end = freshEnd (c .end .transmit) (c .end .receive) (agreed (c .settings) p);
     }
 
 -- a record with another request of the opening
 abbrev pub withAttempt : Connection → Attempt → Connection
-withAttempt c a =
-    record { phase = c .phase; settings = c .settings; transmit = c .transmit; attempt = a; leaving = c .leaving; channel = c .channel }
+withAttempt c a = record { phase = c .phase; settings = c .settings; attempt = a; leaving = c .leaving; end = c .end }
 
--- a record with another channel
-abbrev pub withChannel : Connection → Channel → Connection
-withChannel c ch =
-    record { phase = c .phase; settings = c .settings; transmit = c .transmit; attempt = c .attempt; leaving = c .leaving; channel = ch }
+-- a record with another end
+abbrev pub withOpenEnd : Connection → OpenEnd → Connection
+withOpenEnd c e = record { phase = c .phase; settings = c .settings; attempt = c .attempt; leaving = c .leaving; end = e }
 
--- the ID that a record listens on: none when it is closed, 0x200 + unit until the D0, then our receive ID
+-- the ID that a record listens on: none when it is closed, requestId + unit until the D0, then our receive ID
 unfoldable pub listensOn : Connection → Option ℕ
 listensOn c =
     if isClosed c then none
     else if isRequesting c then some (requestId + c .settings .unit)
-    else some (c .settings .receive)
+    else some (c .end .receive)
 
 -- an ID is the one that is listened on
 abbrev pub isThat : ℕ → Option ℕ → Bool
@@ -121,5 +118,5 @@ isThat id none = false
 isThat id (some x) = eqb id x
 
 -- row 3 asks whether a frame comes on the ID that the record listens on
-abbrev pub hears : Connection → (id : ℕ) → Bool
+unfoldable pub hears : Connection → (id : ℕ) → Bool
 hears c id = isThat id (listensOn c)

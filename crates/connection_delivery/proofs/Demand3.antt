@@ -7,6 +7,7 @@ use mathlib.Core.Path.{_≡_, refl, sym, ap, subst, _∙_}
 use lib.ListN.{length, getD}
 use Rattle.channel.specs.declared.Channel.{Channel}
 use Rattle.connection.specs.declared.Connection.{Connection}
+use Rattle.connection.specs.Record.{phaseOpen}
 use Rattle.delivery.specs.System.{System, Flying, History, Call, isData, step as systemStep, run as systemRun}
 use Rattle.delivery.specs.System.Side.{near, far}
 use Rattle.delivery.specs.System.Fate.{goes, stays, lost}
@@ -112,7 +113,7 @@ module _ (limit : ℕ) (a b : Connection) (ids : Crossing a b) where
 
     both-halves : Fresh start → Demand3 limit (lifted a b start) cs
     both-halves f =
-        let fits : Fits start = record { sides = fresh-sides start f; quiet = λ e. absurd (true≢false e) } in
+        let fits : Fits start = record { sides = fresh-sides start f; silent = λ e. absurd (true≢false e) } in
         record {
           first = λ t roomy.
               let r = run-lifts limit a b ids cs start fits t in
@@ -139,15 +140,15 @@ module _ (limit : ℕ) (a b : Connection) (ids : Crossing a b) where
 -- they are the records of the system that their channels start with
 fresh-lifted : (p : Pair) → FreshPair p
     → p ≡ lifted (p .near .connection) (p .far .connection)
-    (systemOf (p .near .connection .channel) (p .near .buffer) true (p .far .connection .channel) (p .far .buffer) [] [] (p .history))
+    (systemOf (p .near .connection .end .channel) (p .near .buffer) true (p .far .connection .end .channel) (p .far .buffer) [] [] (p .history))
 fresh-lifted p f =
     ap (λ n. made n (p .far .connection .phase) (p .forward) (p .backward)) (f .near)
-    ∙ ap (λ n. made 3 n (p .forward) (p .backward)) (f .far)
-    ∙ ap (λ l. made 3 3 l (p .backward)) (f .sent)
-    ∙ ap (made 3 3 []) (f .answered)
+    ∙ ap (λ n. made phaseOpen n (p .forward) (p .backward)) (f .far)
+    ∙ ap (λ l. made phaseOpen phaseOpen l (p .backward)) (f .forward)
+    ∙ ap (made phaseOpen phaseOpen []) (f .backward)
   where
     phased : Connection → ℕ → Connection
-    phased c n = record { phase = n; settings = c .settings; transmit = c .transmit; attempt = c .attempt; leaving = c .leaving; channel = c .channel }
+    phased c n = record { phase = n; settings = c .settings; attempt = c .attempt; leaving = c .leaving; end = c .end }
 
     made : ℕ → ℕ → List Frame → List Frame → Pair
     made n m l k =
@@ -164,5 +165,5 @@ demand3 limit small p f cs =
     let e = fresh-lifted p f in
     subst (λ q. Demand3 limit q cs) (sym e)
     (both-halves limit (p .near .connection) (p .far .connection) (record { forth = f .forth; back = f .back }) small
-    (p .near .connection .channel) (p .near .buffer) (p .far .connection .channel) (p .far .buffer) (p .history) cs
+    (p .near .connection .end .channel) (p .near .buffer) (p .far .connection .end .channel) (p .far .buffer) (p .history) cs
     (subst (λ q. Fresh (view q)) e (f .fresh)))

@@ -17,9 +17,9 @@ use Rattle.channel.specs.declared.Answer.{Answer}
 use Rattle.channel.specs.Numbers.{said as channelSaid, closes}
 use Rattle.channel.specs.Opened.{withReceiver, testDue, elapsed as channelElapsed, due as channelDue, sent as channelSent}
 use Rattle.arrival.specs.Arrived.{arrived as channelArrived}
+use Rattle.open_end.specs.OpenEnd.{sentAt, takeAnswer, lengthShown, takenAt}
 use Rattle.connection.specs.declared.Connection.{Connection}
-use Rattle.connection.specs.Numbers.{said}
-use Rattle.connection.specs.Calls.{sentBy, takeAnswer, lengthShown, takenBy}
+use Rattle.connection.specs.Calls.{openSent, sentBy, openTaken, takenBy}
 use Rattle.delivery.specs.System.{System, Flying, History, Fate, Call, handing, shownBy, lent, ifLive, sending as systemSending, taking as systemTaking, timing as systemTiming, asking as systemAsking, arriving as systemArriving, meeting, step as systemStep, run as systemRun}
 use Rattle.delivery.specs.System.Side.{near, far}
 use Rattle.delivery.specs.System.Fate.{goes, stays, lost}
@@ -28,7 +28,7 @@ use Rattle.delivery.specs.Claim.{NoTest, Always as SystemAlways}
 use Rattle.delivery.proofs.Steps.{IsData, IsAck, Every, Sides, step-moves}
 use Rattle.connection_delivery.specs.Pair.{Frame, Pair, withParty, withHistory, sending, taking, timing, asking, arriving, step, run, view}
 use Rattle.connection_delivery.specs.Claim.{Always}
-use Rattle.connection_delivery.proofs.Ends.{openOn, recordOf, said-passed, Settles, data-settles, ack-settles, arrived-open, buffered-open, elapsed-settles, elapsed-open, due-goes-on, due-given, due-none, sent-goes-on, arrived-closed, buffered-closed, elapsed-closed, due-closed}
+use Rattle.connection_delivery.proofs.Ends.{openOn, recordOf, Settles, data-settles, ack-settles, arrived-open, buffered-open, elapsed-settles, elapsed-open, due-goes-on, due-given, due-none, sent-goes-on, arrived-closed, buffered-closed, elapsed-closed, due-closed}
 
 -- a frame on its way, with the ID that it has
 abbrev pub framed : ℕ → Flying → Frame
@@ -40,8 +40,8 @@ lifted a b s =
     record {
       near = record { connection = recordOf a (s .near .live) (s .near .channel); buffer = s .near .buffer };
       far = record { connection = recordOf b (s .far .live) (s .far .channel); buffer = s .far .buffer };
-      forward = map (framed (b .settings .receive)) (s .forward);
-      backward = map (framed (a .settings .receive)) (s .backward);
+      forward = map (framed (b .end .receive)) (s .forward);
+      backward = map (framed (a .end .receive)) (s .backward);
       history = s .history;
     }
 
@@ -58,8 +58,8 @@ systemOf nc nb live fc fb fw bw h =
 
 -- IDs that cross: each end's transmit ID is the other's receive ID
 pub record Crossing (a b : Connection) : Type 0 where
-  pub forth : a .transmit ≡ b .settings .receive
-  pub back : b .transmit ≡ a .settings .receive
+  pub forth : a .end .transmit ≡ b .end .receive
+  pub back : b .end .transmit ≡ a .end .receive
 
 module _ (limit : ℕ) (a b : Connection) (ids : Crossing a b) where
   lifted-if : (t : Bool) (x y : System) → (if t then lifted a b x else lifted a b y) ≡ lifted a b (if t then x else y)
@@ -68,7 +68,7 @@ module _ (limit : ℕ) (a b : Connection) (ids : Crossing a b) where
 
   -- what a take shows, noted
   handing-shown : (n : Taking) (size : ℕ) (buffer : List ℕ) (p : Pair)
-      → (if eqb (said (takeAnswer n) .number) 0 then withHistory p (handing (p .history) (take (lengthShown n size) buffer ∷ [])) else p)
+      → (if eqb (channelSaid (takeAnswer n) .number) 0 then withHistory p (handing (p .history) (take (lengthShown n size) buffer ∷ [])) else p)
       ≡ withHistory p (handing (p .history) (shownBy n (take size buffer)))
   handing-shown Shown size buffer p = refl
   handing-shown NoneComplete size buffer p = rw (append-nil (p .history .handedOut))
@@ -83,29 +83,29 @@ module _ (limit : ℕ) (a b : Connection) (ids : Crossing a b) where
     sys live = systemOf nc nb live fc fb fw bw h
 
     send-lifts : (m : List ℕ) (live : Bool) → Lifts (sys live) (send m)
-    unfolding sending sentBy systemSending
+    unfolding sending sentBy openSent sentAt systemSending
     send-lifts m false = refl
     send-lifts m true =
         let r = channelSent limit nc (length m) in
-        rw (said-passed (r .answer) .0, sent-goes-on limit nc (length m)) (lifted-if (eqb (channelSaid (r .answer) .number) 0) _ _)
+        rw (sent-goes-on limit nc (length m)) (lifted-if (eqb (channelSaid (r .answer) .number) 0) _ _)
 
     take-near-lifts : (live : Bool) → Lifts (sys live) (takes near)
-    unfolding taking takenBy systemTaking
+    unfolding taking takenBy openTaken takenAt systemTaking
     take-near-lifts false = refl
     take-near-lifts true =
         let t = took (nc .receiver) (length nb) in
         handing-shown (t .note) (nc .receiver .complete .length) nb (withParty near (lifted a b (sys true)) (record { connection = openOn a (withReceiver nc (t .receiver)); buffer = nb }))
 
     take-far-lifts : (live : Bool) → Lifts (sys live) (takes far)
-    unfolding taking takenBy systemTaking
+    unfolding taking takenBy openTaken takenAt systemTaking
     take-far-lifts live =
         let t = took (fc .receiver) (length fb) in
         handing-shown (t .note) (fc .receiver .complete .length) fb (withParty far (lifted a b (sys live)) (record { connection = openOn b (withReceiver fc (t .receiver)); buffer = fb }))
 
     time-near-lifts : (n : ℕ) (live : Bool) → Lifts (sys live) (time near n)
     unfolding timing systemTiming
-    time-near-lifts n false = rw (elapsed-closed n, or-false (h .lost))
-    time-near-lifts n true = rw (elapsed-open a nc n, said-passed (channelElapsed nc n .answer) .0, said-passed (channelElapsed nc n .answer) .1)
+    time-near-lifts n false = rw (elapsed-closed n, or-false (h .givenUp))
+    time-near-lifts n true = rw (elapsed-open a nc n)
 
     time-far-lifts : (n : ℕ) (live : Bool) → Lifts (sys live) (time far n)
     unfolding timing systemTiming
@@ -130,16 +130,15 @@ module _ (limit : ℕ) (a b : Connection) (ids : Crossing a b) where
 
   module _ (nc : Channel) (nb : List ℕ) (fc : Channel) (fb : List ℕ) (fw bw : List Flying) (h : History) (f : Flying) where
     arriving-near : (live : Bool) → IsAck (sorted (f .bytes) .kind)
-        → arriving limit near (lifted a b (systemOf nc nb live fc fb fw bw h)) (framed (a .settings .receive) f)
+        → arriving limit near (lifted a b (systemOf nc nb live fc fb fw bw h)) (framed (a .end .receive) f)
         ≡ lifted a b (ifLive near (systemOf nc nb live fc fb fw bw h) (systemArriving limit near (systemOf nc nb live fc fb fw bw h) f))
     unfolding arriving systemArriving
-    arriving-near false k = rw (arrived-closed, buffered-closed, or-false (h .lost))
+    arriving-near false k = rw (arrived-closed, buffered-closed, or-false (h .givenUp))
     arriving-near true k =
-        let r = channelArrived limit nc (sorted (f .bytes) .kind) (drop 1 (f .bytes)) (length nb) in
-        rw (arrived-open limit a nc (f .bytes) (length nb) (ack-settles limit nc _ _ (length nb) k), buffered-open, said-passed (r .answer) .0, said-passed (r .answer) .1)
+        rw (arrived-open limit a nc (f .bytes) (length nb) (ack-settles limit nc _ _ (length nb) k), buffered-open)
 
     arriving-far : (live : Bool) → IsData (sorted (f .bytes) .kind)
-        → arriving limit far (lifted a b (systemOf nc nb live fc fb fw bw h)) (framed (b .settings .receive) f)
+        → arriving limit far (lifted a b (systemOf nc nb live fc fb fw bw h)) (framed (b .end .receive) f)
         ≡ lifted a b (systemArriving limit far (systemOf nc nb live fc fb fw bw h) f)
     unfolding arriving systemArriving
     arriving-far live k = rw (arrived-open limit b fc (f .bytes) (length fb) (data-settles limit fc _ _ (length fb) k), buffered-open)
@@ -180,21 +179,21 @@ module _ (limit : ℕ) (a b : Connection) (ids : Crossing a b) where
 -- ---- tests
 
 -- an end closed by 8 has no test due, as it had none before
-abbrev pub Quiet : (live : Bool) → Channel → Type 0
-Quiet live c = live ≡ false → testDue c ≡ false
+abbrev pub Silent : (live : Bool) → Channel → Type 0
+Silent live c = live ≡ false → testDue c ≡ false
 
 module _ (limit : ℕ) (s : System) (w : Sides s) (q : testDue (s .near .channel) ≡ false) where
-  pub step-quiet : (c : Call) → Quiet (systemStep limit s c .near .live) (systemStep limit s c .near .channel)
+  pub step-silent : (c : Call) → Silent (systemStep limit s c .near .live) (systemStep limit s c .near .channel)
   unfolding systemSending systemTaking systemTiming systemAsking systemArriving
-  step-quiet = go
+  step-silent = go
     where
       P : System → Type 0
-      P t = Quiet (t .near .live) (t .near .channel)
+      P t = Silent (t .near .live) (t .near .channel)
 
-      settles : {x : Answer} {ch : Channel} → Settles (s .near .channel) x ch → Quiet (not (closes x)) ch
+      settles : {x : Answer} {ch : Channel} → Settles (s .near .channel) x ch → Silent (not (closes x)) ch
       settles e f = ap testDue (e .kept (not-false _ f)) ∙ q
 
-      goes-on : (x : Answer) (ch : Channel) → closes x ≡ false → Quiet (not (closes x)) ch
+      goes-on : (x : Answer) (ch : Channel) → closes x ≡ false → Silent (not (closes x)) ch
       goes-on x ch e f = absurd (false≢true (sym e ∙ not-false _ f))
 
       back : (fate : Fate) (l : List Flying) → Every IsAck l → P (meeting limit near fate l s)
@@ -232,15 +231,15 @@ module _ (limit : ℕ) (s : System) (w : Sides s) (q : testDue (s .near .channel
 -- what stays so in a system: data alone goes forth, Acks alone come back, and an end closed by 8 has no test due
 pub record Fits (s : System) : Type 0 where
   pub sides : Sides s
-  pub quiet : Quiet (s .near .live) (s .near .channel)
+  pub silent : Silent (s .near .live) (s .near .channel)
 
 module _ (limit : ℕ) (a b : Connection) (ids : Crossing a b) where
   -- no test due in the channels of the pair, none in the system
   no-test : (s : System) → Fits s → NoTest (view (lifted a b s)) → NoTest s
   no-test s f t =
-      (go (s .near .live) (f .quiet) (t .0), rw (f .sides .open′) at (t .1))
+      (go (s .near .live) (f .silent) (t .0), rw (f .sides .open′) at (t .1))
     where
-      go : (live : Bool) → (live ≡ false → testDue (s .near .channel) ≡ false) → testDue (recordOf a live (s .near .channel) .channel) ≡ false
+      go : (live : Bool) → (live ≡ false → testDue (s .near .channel) ≡ false) → testDue (recordOf a live (s .near .channel) .end .channel) ≡ false
           → testDue (s .near .channel) ≡ false
       go true q e = e
       go false q e = q refl
@@ -257,6 +256,6 @@ module _ (limit : ℕ) (a b : Connection) (ids : Crossing a b) where
       let e = step-lifts limit a b ids s c (f .sides) in
       let n = no-test s f (t .0) in
       let r = run-lifts cs (systemStep limit s c)
-      (record { sides = step-moves limit s c (f .sides) n .sides; quiet = step-quiet limit s (f .sides) (n .0) c })
+      (record { sides = step-moves limit s c (f .sides) n .sides; silent = step-silent limit s (f .sides) (n .0) c })
       (subst (λ p. Always limit NoTest p cs) e (t .1)) in
       record { ran = ap (λ p. run limit p cs) e ∙ r .ran; noTest = (n, r .noTest); fits = r .fits }

@@ -10,18 +10,19 @@ use lib.ListN.{length, replicate}
 use borrow.Author.Tests.{leb-true, ltb-false, eqb-false, not-true, eq-eqb, ne-eqb, le-ltb}
 use Rattle.laws.proofs.Cases.{both, or-first, or-second}
 use Rattle.telegram.specs.Time.{tenthsOf}
-use Rattle.telegram.specs.Outgoing.{sent}
-use Rattle.opening.specs.Opening.{requestOf, replyOf}
+use Rattle.telegram.specs.Outgoing.{bytesOf}
+use Rattle.opening.specs.Opening.{requestId, requestOf, replyOf}
 use Rattle.telegram.specs.Kinds.{badBlock, setupOf, acceptOf}
 use Rattle.telegram.specs.declared.kinds.Parameters.{Parameters as Fields}
 use Rattle.telegram.proofs.RoundTrip.{accept-sorted}
 use Rattle.opening.proofs.RoundTrip.{positive-read}
 use Rattle.settings.specs.Settings.{allowed}
 use Rattle.settings.specs.declared.Settings.{Settings}
+use Rattle.channel.specs.declared.Answer.the-variants.{Good}
+use Rattle.open_end.specs.declared.answers.Answer.the-variants.{Channel}
 use Rattle.connection.specs.declared.Connection.{Connection}
-use Rattle.connection.specs.declared.Answer.the-variants.{Good}
-use Rattle.connection.specs.Record.{listensOn, requestId, closedRecord, withAttempt, requesting, agreeing, ownFields, opened}
-use Rattle.connection.specs.Calls.{gives, handOver, opening, onReply, onAccept, onAgreeing, arrived, attemptOut, requestDue, dueOf}
+use Rattle.connection.specs.Record.{listensOn, hears, closedRecord, withAttempt, requesting, agreeing, ownFields, opened}
+use Rattle.connection.specs.Calls.{gives, brings, handOver, opening, onReply, onAccept, onAgreeing, arrived, attemptOut, requestDue, dueOf}
 use Rattle.delivery.specs.System.{Try}
 use Rattle.connection_delivery.specs.Claim.{FreshPair}
 use Rattle.connection_delivery.specs.Opening.{exchange, openedPair}
@@ -32,7 +33,7 @@ record Allowed (s : Settings) : Type 0 where
   least : 1 ≤ s .block
   most : s .block ≤ 15
   t1 : 1 ≤ tenthsOf (s .t1)
-  pause : 1 ≤ s .pause
+  «t_wait» : 1 ≤ s .«t_wait»
 
 -- a time code whose scale is not 0 is at least one tenth
 tenths-some : (code : ℕ) → not (eqb (code % 64) 0) ≡ true → 1 ≤ tenthsOf code
@@ -56,7 +57,7 @@ allowed-parts s e =
       least = omega (arith, eqb-false (s .block) 0 (or-first (eqb (s .block) 0) (ltb 15 (s .block)) block));
       most = ltb-false 15 (s .block) (or-second (eqb (s .block) 0) (ltb 15 (s .block)) block);
       t1 = tenths-some (s .t1) (to-t1 .1);
-      pause = leb-true 1 (s .pause) (to-pause .1);
+      «t_wait» = leb-true 1 (s .«t_wait») (to-pause .1);
     }
 
 -- ---- one end
@@ -71,30 +72,30 @@ module _ (limit : ℕ) (s : Settings) (a : allowed s ≡ true) (transmit : ℕ) 
   is-opened = rw a
 
   hands-c0 : dueOf (requesting s) []
-      ≡ handOver Good (record { id = requestId; payload = requestOf (s .unit) (s .receive) }) (asked (requesting s))
+      ≡ handOver (record { id = requestId; payload = requestOf (s .unit) (s .receive) }) (asked (requesting s))
   unfolding dueOf requestDue
   hands-c0 = refl
 
-  d0-arrives : arrived limit (asked (requesting s)) (requestId + s .unit) (sent (replyOf 0xD0 (s .receive) transmit)) room
-      ≡ gives Good (agreeing (requesting s) transmit)
-  unfolding listensOn arrived onReply
+  d0-arrives : arrived limit (asked (requesting s)) (requestId + s .unit) (bytesOf (replyOf 0xD0 (s .receive) transmit)) room
+      ≡ brings Good (agreeing (requesting s) transmit)
+  unfolding hears listensOn arrived onReply
   d0-arrives = rw (eq-eqb (requestId + s .unit) _ refl, positive-read (s .receive) transmit (allowed-parts s a .receive) h)
 
   hands-a0 : dueOf (agreeing (requesting s) transmit) []
-      ≡ handOver Good (record { id = transmit; payload = setupOf (ownFields s) }) (asked (agreeing (requesting s) transmit))
+      ≡ handOver (record { id = transmit; payload = setupOf (ownFields s) }) (asked (agreeing (requesting s) transmit))
   unfolding dueOf requestDue
   hands-a0 = refl
 
-  a1-arrives : arrived limit (asked (agreeing (requesting s) transmit)) (s .receive) (sent (acceptOf f)) room
-      ≡ gives Good (opened (agreeing (requesting s) transmit) f)
-  unfolding listensOn arrived onAgreeing onAccept badBlock
+  a1-arrives : arrived limit (asked (agreeing (requesting s) transmit)) (s .receive) (bytesOf (acceptOf f)) room
+      ≡ brings Good (opened (agreeing (requesting s) transmit) f)
+  unfolding hears listensOn arrived onAgreeing onAccept badBlock
   a1-arrives =
       rw (eq-eqb (s .receive) _ refl, ap (λ x. x .kind) (accept-sorted f), ne-eqb (f .block) 0 (omega (arith, least)), le-ltb 15 (f .block) most)
 
   -- all five calls are answered 0, the C0 and the A0 are handed over, and the record is open
   pub opened-fresh : exchange limit s transmit f room
       ≡ record {
-        answers = replicate 5 Good;
+        answers = replicate 5 (Channel Good);
         frames = record { id = requestId; payload = requestOf (s .unit) (s .receive) } ∷ record { id = transmit; payload = setupOf (ownFields s) } ∷ [];
         connection = opened (agreeing (requesting s) transmit) f;
       }
@@ -107,8 +108,8 @@ module _ (limit : ℕ) (s : Settings) (a : allowed s ≡ true) (transmit : ℕ) 
 pub opening-leads-to-fresh : (limit : ℕ) (s t : Settings) → allowed s ≡ true → allowed t ≡ true
     → (f g : Fields) → 1 ≤ f .block → f .block ≤ 15 → 1 ≤ g .block → g .block ≤ 15 → min (t .block) (g .block) ≡ min (s .block) (f .block)
     → (b c : List ℕ) (try : Try)
-    → (exchange limit s (t .receive) f (length b) .answers ≡ replicate 5 Good)
-    × (exchange limit t (s .receive) g (length c) .answers ≡ replicate 5 Good)
+    → (exchange limit s (t .receive) f (length b) .answers ≡ replicate 5 (Channel Good))
+    × (exchange limit t (s .receive) g (length c) .answers ≡ replicate 5 (Channel Good))
     × FreshPair (openedPair limit s t f g b c try)
 opening-leads-to-fresh limit s t a a′ f g least most least′ most′ agreed b c try =
     let p = allowed-parts s a in
@@ -123,8 +124,8 @@ opening-leads-to-fresh limit s t a a′ f g least most least′ most′ agreed b
         back = refl;
         fresh =
             record {
-              near = record { sender = refl; receiver = refl; tests = refl; accept = refl; t1 = p .t1; pause = p .pause; live = refl };
-              far = record { sender = refl; receiver = refl; tests = refl; accept = refl; t1 = q .t1; pause = q .pause; live = refl };
+              near = record { sender = refl; receiver = refl; tests = refl; accept = refl; t1 = p .t1; «t_wait» = p .«t_wait»; live = refl };
+              far = record { sender = refl; receiver = refl; tests = refl; accept = refl; t1 = q .t1; «t_wait» = q .«t_wait»; live = refl };
               agreed = agreed;
               least = omega (arith, p .least);
               most = omega (arith, p .most);
@@ -132,8 +133,8 @@ opening-leads-to-fresh limit s t a a′ f g least most least′ most′ agreed b
               backward = refl;
               history = refl;
             };
-        sent = refl;
-        answered = refl;
+        forward = refl;
+        backward = refl;
       },
     )
 

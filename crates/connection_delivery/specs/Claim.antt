@@ -6,7 +6,7 @@ use mathlib.Core.Logic.{_⊎_}
 use mathlib.Core.List.{List, [], _∷_, _++_}
 use lib.ListN.{length, getD, take}
 use Prim.Native.Nat.{_≤_}
-use Rattle.connection.specs.Record.{isOpen}
+use Rattle.connection.specs.Record.{phaseOpen, isOpen}
 use Rattle.delivery.specs.System.{System, Call}
 use Rattle.delivery.specs.System.Side.{far}
 use Rattle.delivery.specs.System.Call.{take as takes}
@@ -25,13 +25,13 @@ Along limit P p (c ∷ cs) = P (view p) c × Along limit P (step limit p c) cs
 
 -- "two fresh ends of one connection": both open, each end's transmit ID the other's receive ID, and their channels fresh
 pub record FreshPair (p : Pair) : Type 0 where
-  pub near : p .near .connection .phase ≡ 3
-  pub far : p .far .connection .phase ≡ 3
-  pub forth : p .near .connection .transmit ≡ p .far .connection .settings .receive
-  pub back : p .far .connection .transmit ≡ p .near .connection .settings .receive
+  pub near : p .near .connection .phase ≡ phaseOpen
+  pub far : p .far .connection .phase ≡ phaseOpen
+  pub forth : p .near .connection .end .transmit ≡ p .far .connection .end .receive
+  pub back : p .far .connection .end .transmit ≡ p .near .connection .end .receive
   pub fresh : Fresh (view p)
-  pub sent : p .forward ≡ []
-  pub answered : p .backward ≡ []
+  pub forward : p .forward ≡ []
+  pub backward : p .backward ≡ []
 
 -- one message given up, after every continuation of the list: "handed out whole or no part of it ever is"
 abbrev pub WholeOrNever : (limit : ℕ) → Pair → Type 0
@@ -48,7 +48,7 @@ pub record Delivered (limit : ℕ) (p : Pair) : Type 0 where
       (i : ℕ) → i < p .history .done →
       (i < length (p .history .handedOut)) ⊎ ((length (p .history .handedOut) ≡ i) × (step limit p (takes far) .history .handedOut ≡ p .history .handedOut ++ (getD (p .history .accepted) i [] ∷ [])))
   -- "given up": 8 was answered before the last message accepted was done
-  pub givenUp : p .history .lost ≡ true → (length (p .history .accepted) ≡ p .history .done + 1) × WholeOrNever limit p
+  pub givenUp : p .history .givenUp ≡ true → (length (p .history .accepted) ≡ p .history .done + 1) × WholeOrNever limit p
   -- the receiving end stays open
   pub open′ : isOpen (p .far .connection) ≡ true
 
@@ -58,12 +58,12 @@ pub record Demand3 (limit : ℕ) (p : Pair) (cs : List Call) : Type 0 where
   pub second :
       Always limit NoTest p cs → Roomy (view p) (view (run limit p cs)) →
       Along limit InTime p cs → Along limit TakenFirst p cs → AtRest (view (run limit p cs)) →
-      FewLosses (p .near .connection .channel .parameters .terms .repeats) (run limit p cs .history .losses) →
-      AllDone (p .near .connection .channel .parameters .terms .repeats) (run limit p cs .history)
+      FewLosses (p .near .connection .end .channel .parameters .terms .repeats) (run limit p cs .history .losses) →
+      AllDone (p .near .connection .end .channel .parameters .terms .repeats) (run limit p cs .history)
   -- with so few losses 8 is never answered, at rest or not
   pub stays :
       Always limit NoTest p cs → Along limit InTime p cs → Along limit TakenFirst p cs →
-      FewLosses (p .near .connection .channel .parameters .terms .repeats) (run limit p cs .history .losses) →
+      FewLosses (p .near .connection .end .channel .parameters .terms .repeats) (run limit p cs .history .losses) →
       isOpen (run limit p cs .near .connection) ≡ true
 
 -- for every list of calls on two fresh connections

@@ -3,16 +3,16 @@ use Prim.Native.Nat.{ℕ, _+_}
 use mathlib.Core.List.{List, [], _∷_, _++_}
 use lib.ListN.{length}
 use Rattle.laws.specs.If.{if_then_else_}
-use Rattle.telegram.specs.Outgoing.{sent}
-use Rattle.opening.specs.Opening.{replyOf}
+use Rattle.telegram.specs.Outgoing.{bytesOf}
+use Rattle.opening.specs.Opening.{requestId, replyOf}
 use Rattle.telegram.specs.Kinds.{acceptOf}
 use Rattle.telegram.specs.declared.kinds.Parameters.{Parameters as Fields}
 use Rattle.settings.specs.declared.Settings.{Settings}
+use Rattle.open_end.specs.declared.answers.Answer.{Answer}
+use Rattle.open_end.specs.declared.Frame.{Frame}
 use Rattle.connection.specs.declared.Connection.{Connection}
-use Rattle.connection.specs.declared.Answer.{Answer}
-use Rattle.connection.specs.declared.Frame.{Frame}
 use Rattle.connection.specs.declared.Due.{Due}
-use Rattle.connection.specs.Record.{requestId, closedRecord}
+use Rattle.connection.specs.Record.{closedRecord}
 use Rattle.connection.specs.Calls.{opening, arrived, dueOf}
 use Rattle.delivery.specs.System.{Try}
 use Rattle.delivery.specs.Claim.{noHistory}
@@ -33,9 +33,9 @@ unfoldable pub exchange : (limit : ℕ) → Settings → (transmit : ℕ) → Fi
 exchange limit s transmit fields room =
     (let o = opening closedRecord s in
     let c0 = dueOf (o .connection) [] in
-    let d0 = arrived limit (c0 .connection) (requestId + s .unit) (sent (replyOf 0xD0 (s .receive) transmit)) room in
+    let d0 = arrived limit (c0 .connection) (requestId + s .unit) (bytesOf (replyOf 0xD0 (s .receive) transmit)) room in
     let a0 = dueOf (d0 .connection) [] in
-    let a1 = arrived limit (a0 .connection) (s .receive) (sent (acceptOf fields)) room in
+    let a1 = arrived limit (a0 .connection) (s .receive) (bytesOf (acceptOf fields)) room in
     record {
       answers = o .told .answer ∷ c0 .told .answer ∷ d0 .told .answer ∷ a0 .told .answer ∷ a1 .told .answer ∷ [];
       frames = handedOver c0 ++ handedOver a0;

@@ -5,7 +5,7 @@ use mathlib.Core.List.{List, [], _∷_, _++_, map}
 use lib.ListN.{length, take}
 use lib.Dec.{eqb}
 use Rattle.laws.specs.If.{if_then_else_}
-use Rattle.telegram.specs.Outgoing.{sent}
+use Rattle.telegram.specs.Outgoing.{bytesOf}
 use Rattle.telegram.specs.Kinds.{sorted}
 use Rattle.connection.specs.declared.Connection.{Connection}
 use Rattle.connection.specs.Record.{isOpen}
@@ -89,13 +89,13 @@ unfoldable pub asking : Side → Pair → Pair
 asking side p =
     (let e = partyOf side p in
     let d = dueOf (e .connection) (lent (p .history)) in
-    let k = sorted (sent (d .frame .payload)) .kind in
+    let k = sorted (bytesOf (d .frame .payload)) .kind in
     let q = withParty side p (record { connection = d .connection; buffer = e .buffer }) in
     if d .given
     then withHistory
     (withLinkTo (other side) q
-    (linkTo (other side) p ++ (record { id = d .frame .id; bytes = sent (d .frame .payload); try = tryOf (p .history) (e .connection .channel) k } ∷ [])))
-    (counted (p .history) (e .connection .channel) k)
+    (linkTo (other side) p ++ (record { id = d .frame .id; bytes = bytesOf (d .frame .payload); try = tryOf (p .history) (e .connection .end .channel) k } ∷ [])))
+    (counted (p .history) (e .connection .end .channel) k)
     else q)
 
 -- a frame arrives at an end, lent its buffer
@@ -131,7 +131,7 @@ run limit p (c ∷ cs) = run limit (step limit p c) cs
 
 -- an end as its channel stands there: live while the record is open
 abbrev pub endOf : Party → End
-endOf e = record { channel = e .connection .channel; buffer = e .buffer; live = isOpen (e .connection) }
+endOf e = record { channel = e .connection .end .channel; buffer = e .buffer; live = isOpen (e .connection) }
 
 -- a frame without its ID
 abbrev pub flying : Frame → Flying

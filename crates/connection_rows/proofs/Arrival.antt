@@ -1,56 +1,82 @@
 -- A frame that arrives: the call says and leaves what `arrivalTable` tells.
-use Prim.Native.Nat.{ℕ, _+_, _-_}
-use mathlib.Core.Bool.{true, false, cond, not, _&&_, _||_}
+use Prim.Native.Nat.{ℕ, _+_, _-_, _≤_, _<_}
+use native.Mathlib.Omega.{arith}
+use mathlib.Core.Bool.{Bool, true, false, not, _&&_, _||_, or-false}
 use mathlib.Core.List.{List}
-use mathlib.Core.Path.{_≡_, refl}
+use mathlib.Core.Path.{_≡_, refl, _∙_}
 use lib.ListN.{length, drop, getD, length-drop}
 use lib.Seq.{getD-drop}
 use lib.Dec.{ltb, leb, eqb}
+use borrow.Author.Tests.{eq-eqb, ne-eqb, lt-ltb, le-ltb, le-leb, lt-leb}
 use Rattle.laws.specs.If.{if_then_else_}
-use Rattle.laws.proofs.Cases.{by, by-not, Makes, either}
+use Rattle.laws.proofs.Branches.{not-on, not-off}
+use Rattle.laws.proofs.Cases.{by, by-not, Makes}
 use Rattle.telegram.specs.Kinds.{badBlock, fields, sorted}
 use Rattle.opening.specs.Opening.{replyRead}
-use Rattle.telegram.specs.Cutting.{declaredOf, framesOf}
+use Rattle.telegram.specs.Cutting.{declaredOf}
 use Rattle.opening.specs.declared.Reply.{Reply}
 use Rattle.telegram.specs.declared.kinds.Telegram.{Telegram}
-use Rattle.telegram.specs.declared.kinds.Telegram.the-variants.{Data, Ack, Accept}
-use Rattle.sender.specs.Sending.{onAck as onSenderAck, heard}
+use Rattle.telegram.specs.declared.kinds.Telegram.the-variants.{Data, Ack, Test, Break, Disconnect, Setup, Accept, Malformed}
+use Rattle.sender.specs.Sending.{distance}
+use Rattle.sender.specs.declared.Terms.{Terms}
+use Rattle.sender.specs.declared.Sender.{Sender}
 use Rattle.sender.specs.declared.Heard.{Heard}
+use Rattle.sender.proofs.Acks.{Counts, Stalls, AckCase, no-message, in-hold, repeated, beyond, ack-used-up, held-back, all-acked, part-acked, heard-ack, ackCase}
 use Rattle.receiver.specs.declared.Message.{Message}
+use Rattle.receiver.specs.declared.Receiver.{Receiver}
 use Rattle.receiver.specs.declared.Received.{Received}
-use Rattle.receiver.specs.Receiving.{waiting, first, used, completed, copied, filled, onFirst, onLater, onData as onReceiverData, received, settled as left, buffered as written}
+use Rattle.receiver.specs.declared.Cause.{Cause}
+use Rattle.receiver.specs.declared.Receipt.the-variants.{NoData}
+use Rattle.receiver.specs.Receiving.{isUsed, used, completed, copied, onData}
+use Rattle.receiver.proofs.Outcomes.{declaredBy, Brings, at-first, at-later, Breaks, too-short, declares-none, over-limit, too-many, no-end, early-end, Judged, breaks, short-first, short-later, goes-on, ends, InOrder, Outcome, out-of-place, untaken, thrown-away, in-order, outcome}
+use Rattle.receiver.proofs.Laws.{kept-unasked, NotData, received-data, received-other, buffered-noted, buffered-unused}
 use Rattle.channel.specs.Opened.{withSender, withReceiver, restarted}
-use Rattle.arrival.specs.Arrived.{dataAnswer, ackAnswer, answered, onData, onAck, onAccept as onTestAccept, arrived as channelArrived, bufferedBy}
+use Rattle.channel.specs.declared.Channel.{Channel}
 use Rattle.channel.specs.declared.Answered.{Answered as ChannelAnswered}
+use Rattle.arrival.specs.Arrived.{dataAnswer, ackAnswer, arrived as channelArrived, bufferedBy}
+use Rattle.arrival.proofs.Arriving.{answers, ArrivalOutcome, data-came, ack-came, test-came, break-came, disconnect-came, setup-came, accept-undue, accept-bad, accept-came, malformed-came, arrival-outcome, arrived-data, arrived-ack}
+use Rattle.open_end.specs.declared.answers.Said.{Said}
+use Rattle.open_end.specs.Answers.{plain}
+use Rattle.open_end.specs.OpenEnd.{withChannel, courseOf, arrivedAt, bufferedAt}
 use Rattle.connection.specs.declared.Connection.{Connection}
-use Rattle.connection.specs.declared.Answered.{Answered}
-use Rattle.connection.specs.declared.Said.{Said}
-use Rattle.connection.specs.Numbers.{plain, said, passedOn}
-use Rattle.connection.specs.Record.{isClosed, isRequesting, isAgreeing, withChannel}
-use Rattle.connection.specs.Calls.{arrived, buffered, onReply, onAccept, onAgreeing, onOpen, settled}
-use Rattle.connection_rows.specs.Tables.{row, always, _orElse_, toldBy}
-use Rattle.connection_rows.specs.Rows.{numberIn, asksAck, isLast, isReady, otherId, ahead, throwsAway, thrownAway, arrivalTable, arriveSays}
-use Rattle.connection_rows.proofs.Bytes.{Only, telegram, by-kind, by-reply, two-bytes}
-use Rattle.connection_rows.proofs.Tests.{exceeds, beyond, none-beyond, full, behind, other-phase}
+use Rattle.connection.specs.declared.Arrived.{Arrived}
+use Rattle.connection.specs.Record.{phaseRequesting, phaseAgreeing, isClosed, isRequesting, isAgreeing, isOpen, closedRecord}
+use Rattle.connection.specs.Calls.{brings, arrived, buffered, onReply, onAccept, onAgreeing, onOpen, settled}
+use Rattle.connection_rows.specs.Tables.{row, Table, always, _orElse_, toldBy}
+use Rattle.connection_rows.specs.Rows.{isData, isAck, numberIn, asksAck, isLast, isReady, otherId, outOfPlace, ahead, noMessage, isHolding, isBeyond, changesNothing, notReadyTooOften, waitsUntaken, throwsAway, isJudged, shortLater, broken, shortFirst, onChannel, askedForAck, thrownAway, finishes, sendingAfter, receivingAfter, bufferAfter, arrivalTable, arriveSays}
+use Rattle.connection_rows.proofs.Bytes.{Only, telegram, by-kind, by-reply, data-bytes}
+use Rattle.connection_rows.proofs.Tests.{unbroken, behind, other-phase}
 
 module _ (limit : ℕ) (c : Connection) (id : ℕ) (s b : List ℕ) where
   -- what the table tells
-  abbrev told : Said × (Connection × List ℕ)
-  told = toldBy (arrivalTable limit c id s b)
+  abbrev tabled : Said × (Connection × List ℕ)
+  tabled = toldBy (arrivalTable limit c id s b)
+
+  -- the parts of an open connection
+  abbrev ch : Channel
+  ch = c .end .channel
+
+  abbrev sending : Sender
+  sending = ch .sender
+
+  abbrev terms : Terms
+  terms = ch .parameters .terms
+
+  abbrev receiving : Receiver
+  receiving = ch .receiver
 
   -- what is said and left by an arrival with the buffer w then, by the channel's, and by what the halves make of data and of an Ack
-  abbrev tells : List ℕ → Answered → Said × (Connection × List ℕ)
+  abbrev tells : List ℕ → Arrived → Said × (Connection × List ℕ)
   tells w r = (r .told .said, (r .connection, w))
 
   abbrev passes : List ℕ → ChannelAnswered → Said × (Connection × List ℕ)
-  passes w r = (said (passedOn (r .answer)), (settled c (r .answer) (r .channel), w))
+  passes w r = tells w (brings (r .answer) (settled c (courseOf (r .answer)) (withChannel (c .end) (r .channel))))
 
   abbrev receives : Received → Said × (Connection × List ℕ)
-  receives r =
-      passes (written (c .channel .receiver) (r .note) (drop 1 s) b) (answered (dataAnswer (r .note)) (withReceiver (c .channel) (r .receiver)))
+  receives r = passes (if isUsed (r .note) then copied receiving (drop 1 s) b else b) (answers (dataAnswer (r .note)) (withReceiver ch (r .receiver)))
 
   abbrev hears : Heard → Said × (Connection × List ℕ)
-  hears h = passes b (answered (ackAnswer (h .note)) (withSender (c .channel) (h .sender)))
+  hears h = passes b (answers (ackAnswer (h .note)) (withSender ch (h .sender)))
 
   -- by a reply, by a telegram while the A1 is awaited, and on an open connection
   abbrev replies : List ℕ → Reply → Said × (Connection × List ℕ)
@@ -60,36 +86,158 @@ module _ (limit : ℕ) (c : Connection) (id : ℕ) (s b : List ℕ) where
   agrees w t = tells w (onAgreeing c t)
 
   abbrev opens : Telegram → Said × (Connection × List ℕ)
-  opens t = passes (bufferedBy limit (c .channel) t (drop 1 s) b) (channelArrived limit (c .channel) t (drop 1 s) (length b))
+  opens t = passes (bufferedBy limit ch t (drop 1 s) b) (channelArrived limit ch t (drop 1 s) (length b))
 
-  by-throwing : {x y : Received} (P : Received → Type 0) → (throwsAway c ≡ true → P x) → (throwsAway c ≡ false → P y) → P (cond (c .channel .receiver .at .discarding) x y)
-  unfolding throwsAway
-  by-throwing P = by P (throwsAway c)
+  -- ---- the rows that data on an open connection meets
 
-  -- data that brings the message m to fill bytes
-  filled-told : (m : Message) (fill : ℕ) → Makes receives
-      (toldBy
-      (row (ltb (m .length) fill || not (isLast s) && leb (m .length) fill || isLast s && ltb fill (m .length)) 9 (thrownAway c s, b)
+  abbrev dataRows : Table (Connection × List ℕ)
+  dataRows =
+      row (outOfPlace c s) 12 (askedForAck c s, b)
+      orElse row (waitsUntaken c s) 5 (askedForAck c s, b)
+      orElse row (shortLater c s (length b)) 7 (c, b)
+      orElse row (broken limit c s) 9 (thrownAway c s, b)
+      orElse row (shortFirst c s (length b)) 7 (thrownAway c s, b)
+      orElse always (plain 0) (onChannel c (restarted (withReceiver ch (receivingAfter c s))), bufferAfter c s b)
+
+  -- in order, bringing its message m to fill bytes
+  abbrev messageRows : Message → ℕ → Table (Connection × List ℕ)
+  messageRows m fill =
+      row (ltb (m .length) fill || not (isLast s) && leb (m .length) fill || isLast s && ltb fill (m .length)) 9 (thrownAway c s, b)
       orElse row (ltb (length b) (m .length)) 7 (thrownAway c s, b)
       orElse always (plain 0) (
-        withChannel c (restarted (withReceiver (c .channel) (if isLast s then completed (c .channel .receiver) (asksAck s) m else used (c .channel .receiver) (asksAck s) m fill))),
-        copied (c .channel .receiver) (drop 1 s) b,
-      )))
-      (filled (c .channel .receiver) (asksAck s) (isLast s) m fill (length b))
-  unfolding filled written answered settled
-  filled-told m fill =
-      by (Makes receives _) (ltb (m .length) fill) (λ e. rw e) (λ e. rw (e, full (m .length) fill e)
-      (either (isLast s)
-      (λ l. rw l
-      (by (Makes receives _) (ltb fill (m .length)) (λ f. rw f) (λ f. rw f
-      (by (Makes receives _) (ltb (length b) (m .length)) (λ h. rw h) (λ h. rw h)))))
-      (λ l. rw l
-      (by (Makes receives _) (eqb fill (m .length)) (λ f. rw f) (λ f. rw f
-      (by (Makes receives _) (ltb (length b) (m .length)) (λ h. rw h) (λ h. rw h)))))))
+        onChannel c (restarted (withReceiver ch (if isLast s then completed receiving (asksAck s) m else used receiving (asksAck s) m fill))),
+        copied receiving (drop 1 s) b,
+      )
+
+  throws : {t : Bool} → receiving .at .discarding ≡ t → throwsAway c ≡ t
+  unfolding throwsAway
+  throws e = e
+
+  -- the length that a first frame declares, in the bytes behind its first and in all of them
+  declares : declaredBy (drop 1 s) ≡ declaredOf (getD s 1 0) (getD s 2 0)
+  declares = rw (getD-drop 1 s 0 0, getD-drop 1 s 1 0)
+
+  declares-some : 1 ≤ declaredBy (drop 1 s) → eqb (declaredOf (getD s 1 0) (getD s 2 0)) 0 ≡ false
+  declares-some some = ne-eqb (declaredOf (getD s 1 0) (getD s 2 0)) 0 (λ z. let none = declares ∙ z in omega arith)
+
+  -- it has two length bytes or not
+  longer : 2 ≤ length (drop 1 s) → eqb (length s) 2 ≡ false
+  longer two = let l = length-drop 1 s in ne-eqb (length s) 2 (λ e. omega arith)
+
+  two-bytes : isData s ≡ true → length (drop 1 s) < 2 → eqb (length s) 2 ≡ true
+  two-bytes d short = let l = length-drop 1 s in let two = data-bytes s d in eq-eqb (length s) 2 (omega arith)
+
+  module _ (open′ : isOpen c ≡ true) (d : isData s ≡ true) where
+    module _ (o : InOrder receiving (numberIn s)) where
+      placed : outOfPlace c s ≡ false
+      placed = rw (open′, d, eq-eqb _ _ (o .expected))
+
+      none-waits : waitsUntaken c s ≡ false
+      none-waits = rw (open′, d, eq-eqb _ _ (o .expected), o .none-waits)
+
+      is-judged : isJudged c s ≡ true
+      is-judged = rw (open′, d, eq-eqb _ _ (o .expected), throws (o .not-discarding))
+
+      message-rows : {m : Message} {fill : ℕ} → Brings limit receiving (drop 1 s) (length b) m fill → toldBy (messageRows m fill) ≡ toldBy dataRows
+      message-rows (at-first f two some most) =
+          rw (placed, none-waits, is-judged, throws (o .not-discarding), f, declares, length-drop 1 s, behind (length s), longer two, declares-some some, le-ltb _ _ (rw declares at most))
+      message-rows (at-later f held) = rw (placed, none-waits, is-judged, throws (o .not-discarding), f, length-drop 1 s, le-ltb _ _ held)
+
+      -- what meets a message's rows, meets the data's
+      meets : {m : Message} {fill : ℕ} {v : Said × (Connection × List ℕ)} → Brings limit receiving (drop 1 s) (length b) m fill → v ≡ toldBy (messageRows m fill) → v ≡ toldBy dataRows
+      meets g e = e ∙ message-rows g
+
+      broken-told : {x : Cause} → Breaks limit receiving (isLast s) (drop 1 s) (length b) x → _≡_ {A = Said × (Connection × List ℕ)} (plain 9, (thrownAway c s, b)) (toldBy dataRows)
+      broken-told (too-short f short) = rw (placed, none-waits, is-judged, f, two-bytes d short)
+      broken-told (declares-none f two z) = rw (placed, none-waits, is-judged, f, longer two, eq-eqb _ _ (rw declares at z))
+      broken-told (over-limit f two some over) = rw (placed, none-waits, is-judged, f, longer two, declares-some some, lt-ltb _ _ (rw declares at over))
+      broken-told (too-many g many) = meets g (rw (lt-ltb _ _ many))
+      broken-told (no-end {m = m} {fill = fill} g l e) = meets g (rw (le-ltb (m .length) fill (omega arith), l, le-leb (m .length) fill (omega arith)))
+      broken-told (early-end {m = m} {fill = fill} g l few) = meets g (rw (le-ltb (m .length) fill (omega arith), l, lt-ltb fill (m .length) few))
+
+      judged-told : {x : Received} → Judged limit receiving (asksAck s) (isLast s) (drop 1 s) (length b) x → receives x ≡ toldBy dataRows
+      unfolding courseOf settled
+      judged-told (breaks h) = broken-told h
+      judged-told (short-first {m = m} {fill = fill} g e short) = meets g (rw (unbroken (isLast s) fill (m .length) e, lt-ltb _ _ short))
+      judged-told (short-later f short) = rw (placed, none-waits, is-judged, f, lt-ltb _ _ short)
+      judged-told (goes-on {m = m} {fill = fill} g l less roomy) =
+          meets g (rw (l, le-ltb (m .length) fill (omega arith), lt-leb (m .length) fill less, le-ltb (length b) (m .length) roomy))
+      judged-told (ends {m = m} {fill = fill} g l all roomy) =
+          meets g (rw (l, le-ltb (m .length) fill (omega arith), le-ltb fill (m .length) (omega arith), le-ltb (length b) (m .length) roomy))
+
+    received-told : {x : Received} → Outcome limit receiving (asksAck s) (isLast s) (numberIn s) (drop 1 s) (length b) x → receives x ≡ toldBy dataRows
+    unfolding courseOf settled
+    received-told (out-of-place n) = rw (open′, d, ne-eqb _ _ n)
+    received-told (untaken e w) = rw (open′, d, eq-eqb _ _ e, w)
+    received-told (thrown-away e w t) = rw (open′, d, eq-eqb _ _ e, w, throws t)
+    received-told (in-order o j) = judged-told o j
+
+  -- ---- the rows that an Ack on an open connection meets
+
+  abbrev ackRows : Table (Connection × List ℕ)
+  ackRows =
+      row (changesNothing c s) 12 (c, b)
+      orElse row (notReadyTooOften c s) 8 (closedRecord, b)
+      orElse always (record { number = 0; done = finishes c s; opcode = 0 }) (onChannel c (restarted (withSender ch (sendingAfter c s))), b)
+
+  some-message : Counts sending → noMessage c ≡ false
+  some-message n = ne-eqb (sending .length) 0 (λ z. omega arith)
+
+  no-hold : Counts sending → isHolding c ≡ false
+  no-hold n = le-ltb 0 (sending .hold) (omega arith)
+
+  far : 1 ≤ distance sending (numberIn s) → eqb (ahead c s) 0 ≡ false
+  far some = ne-eqb (ahead c s) 0 (λ z. omega arith)
+
+  within : sending .acked + ahead c s ≤ sending .high → isBeyond c s ≡ false
+  within most = le-ltb (sending .high - sending .acked) (ahead c s) (omega arith)
+
+  not-beyond : Stalls sending (isReady s) (numberIn s) → isBeyond c s ≡ false
+  not-beyond h = let z = h .none in le-ltb (sending .high - sending .acked) (ahead c s) (omega arith)
+
+  module _ (open′ : isOpen c ≡ true) (a : isAck s ≡ true) where
+    heard-told : {x : Heard} → AckCase terms sending (isReady s) (numberIn s) x → hears x ≡ toldBy ackRows
+    unfolding courseOf settled
+    heard-told (no-message z) = rw (open′, a, eq-eqb _ _ z)
+    heard-told (in-hold some held) = rw (open′, a, ne-eqb (sending .length) 0 (λ z. omega arith), lt-ltb _ _ held)
+    heard-told (repeated n z ready) = rw (open′, a, some-message n, no-hold n, eq-eqb _ _ z, ready)
+    heard-told (beyond n some out) = rw (open′, a, some-message n, no-hold n, far some, lt-ltb (sending .high - sending .acked) (ahead c s) (omega arith))
+    heard-told (ack-used-up h most) =
+        let more : terms .repeats < sending .count + 1 = omega arith in
+        rw (open′, a, some-message (h .counts), no-hold (h .counts), not-beyond h, eq-eqb _ _ (h .none), h .busy, lt-ltb _ _ more)
+    heard-told (held-back h few) =
+        let most : sending .count + 1 ≤ terms .repeats = omega arith in
+        rw (open′, a, some-message (h .counts), no-hold (h .counts), not-beyond h, eq-eqb _ _ (h .none), h .busy, le-ltb _ _ most)
+    heard-told (all-acked h e) = rw (open′, a, some-message (h .counts), no-hold (h .counts), far (h .some), within (h .within), eq-eqb _ _ e)
+    heard-told (part-acked h e) = rw (open′, a, some-message (h .counts), no-hold (h .counts), far (h .some), within (h .within), ne-eqb _ _ e)
+
+  -- ---- the other telegrams
+
+  -- a telegram other than data and Ack, of these bytes
+  abbrev Reads : Telegram → Type 0
+  Reads (Data asks last number) = ⊥
+  Reads (Ack ready number) = ⊥
+  Reads Test = Only s 2
+  Reads Break = Only s 3
+  Reads Disconnect = Only s 4
+  Reads (Setup p) = Only s 5
+  Reads (Accept p) = Only s 6 × (p ≡ fields s)
+  Reads Malformed = Only s 7
+
+  -- none but data is written
+  unwritten : (t : Telegram) → NotData t → bufferedBy limit ch t (drop 1 s) b ≡ b
+  unwritten t n = rw (received-other limit receiving (drop 1 s) (length b) t n) (buffered-unused receiving NoData (drop 1 s) b refl)
+
+  -- row 2 asks for the block size byte
+  block : {t : Bool} → badBlock (fields s .block) ≡ t → (eqb (getD s 1 0) 0 || ltb 15 (getD s 1 0)) ≡ t
+  unfolding badBlock
+  block e = e
+
+  -- ---- phase by phase
 
   module _ (closed : isClosed c ≡ false) (same : otherId c id ≡ false) where
     -- while the D0 is awaited
-    reply-told : isRequesting c ≡ true → isAgreeing c ≡ false → Makes (tells (buffered limit c id s b)) told (onReply c (replyRead s (c .settings .receive)))
+    reply-told : isRequesting c ≡ true → isAgreeing c ≡ false → Makes (tells (buffered limit c id s b)) tabled (onReply c (replyRead s (c .settings .receive)))
     unfolding buffered onReply
     reply-told req agr =
         rw (closed, same, req, agr)
@@ -99,8 +247,8 @@ module _ (limit : ℕ) (c : Connection) (id : ℕ) (s b : List ℕ) where
         (λ r q. rw (r, q)))
 
     -- while the A1 is awaited
-    agreeing-told : isRequesting c ≡ false → isAgreeing c ≡ true → Makes (tells (buffered limit c id s b)) told (onAgreeing c (sorted s .kind))
-    unfolding buffered onAgreeing onAccept badBlock
+    agreeing-told : isRequesting c ≡ false → isAgreeing c ≡ true → Makes (tells (buffered limit c id s b)) tabled (onAgreeing c (sorted s .kind))
+    unfolding buffered onAgreeing onAccept
     agreeing-told req agr =
         rw (closed, same, req, agr)
         (by-kind s (Makes (agrees _) _)
@@ -112,70 +260,76 @@ module _ (limit : ℕ) (c : Connection) (id : ℕ) (s b : List ℕ) where
         (λ k. rw (telegram k, k .accept, k .disconnect))
         (λ k. rw (telegram k, k .accept, k .disconnect, k .setup)
         (by-not (Makes (tells _) _) (c .attempt .asked) (λ e. rw e) (λ e. rw e
-        (by (Makes (tells _) _) (badBlock (fields s .block)) (λ z. rw z) (λ z. rw z)))))
+        (by (Makes (tells _) _) (badBlock (fields s .block)) (λ z. rw (block z)) (λ z. rw (block z))))))
         (λ k. rw (telegram k)))
 
     module _ (req : isRequesting c ≡ false) (agr : isAgreeing c ≡ false) where
-      -- data
-      data-told : Only s 0 → Makes opens told (Data (asksAck s) (isLast s) (numberIn s))
-      unfolding channelArrived onData answered settled received onReceiverData onFirst onLater written
+      open′ : isOpen c ≡ true
+      open′ = rw (closed, req, agr)
+
+      data-told : Only s 0 → opens (Data (asksAck s) (isLast s) (numberIn s)) ≡ tabled
       data-told k =
-          rw (closed, same, req, agr, telegram k, k .data′, k .ack, k .accept, k .disconnect, k .setup)
-          (by-not (Makes receives _) (eqb (numberIn s) (c .channel .receiver .at .expected)) (λ e. rw e) (λ e. rw e
-          (by (Makes receives _) (waiting (c .channel .receiver)) (λ w. rw w) (λ w. rw w
-          (by-throwing (Makes receives _) (λ e. rw e) (λ e. rw e
-          (by (Makes receives _) (first (c .channel .receiver))
-          (λ e. rw (e, getD-drop 1 s 0 0, getD-drop 1 s 1 0, length-drop 1 s, two-bytes s (k .data′), behind (length s))
-          (by (Makes receives _) (ltb (length s - 1) 2) (λ h. rw h) (λ h. rw h
-          (by (Makes receives _) (eqb (declaredOf (getD s 1 0) (getD s 2 0)) 0) (λ h. rw h) (λ h. rw h
-          (by (Makes receives _) (ltb limit (declaredOf (getD s 1 0) (getD s 2 0))) (λ h. rw h) (λ h. rw h
-          (filled-told (record { length = declaredOf (getD s 1 0) (getD s 2 0) }) (length s - 3)))))))))
-          (λ e. rw (e, length-drop 1 s)
-          (by (Makes receives _) (ltb (length b) (c .channel .receiver .at .begun .length)) (λ h. rw h) (λ h. rw h
-          (rw h at (filled-told (c .channel .receiver .at .begun) (c .channel .receiver .at .fill + (length s - 1))))))))))))))
+          let rows : toldBy dataRows ≡ tabled = rw (closed, same, req, agr, telegram k, k .data′, k .ack, k .accept, k .disconnect, k .setup, or-false) in
+          let x = onData limit receiving (asksAck s) (isLast s) (numberIn s) (drop 1 s) (length b) in
+          rw (
+            arrived-data limit ch (drop 1 s) (length b) (asksAck s) (isLast s) (numberIn s),
+            received-data limit receiving (drop 1 s) (length b) (asksAck s) (isLast s) (numberIn s),
+            buffered-noted receiving (x .note) (drop 1 s) b,
+          )
+          (received-told open′ (k .data′) (outcome limit receiving (asksAck s) (isLast s) (numberIn s) (drop 1 s) (length b)) ∙ rows)
 
-      -- an Ack
-      ack-told : Only s 1 → Makes opens told (Ack (isReady s) (numberIn s))
-      unfolding channelArrived onAck answered settled received written heard onSenderAck left
+      ack-told : Only s 1 → opens (Ack (isReady s) (numberIn s)) ≡ tabled
       ack-told k =
-          rw (closed, same, req, agr, telegram k, k .data′, k .ack, k .accept, k .disconnect, k .setup)
-          (by (Makes hears _) (eqb (c .channel .sender .length) 0) (λ e. rw e) (λ e. rw e
-          (by (Makes hears _) (ltb 0 (c .channel .sender .hold)) (λ e. rw e) (λ e. rw e
-          (by (Makes hears _) (eqb (ahead c s) 0)
-          (λ z. rw (z, none-beyond _ (ahead c s) z, exceeds)
-          (by (Makes hears _) (isReady s) (λ r. rw r) (λ r. rw r
-          (by (Makes hears _) (leb (c .channel .parameters .terms .repeats) (c .channel .sender .count)) (λ u. rw u) (λ u. rw u)))))
-          (λ z. rw (z, beyond _ _ (ahead c s) z)
-          (by (Makes hears _) (ltb (c .channel .sender .high) (c .channel .sender .acked + ahead c s)) (λ o. rw o) (λ o. rw o
-          (by (Makes hears _) (eqb (c .channel .sender .acked + ahead c s) (framesOf (c .channel .sender .length))) (λ d. rw d) (λ d. rw d))))))))))
+          let rows : toldBy ackRows ≡ tabled =
+          rw (closed, same, req, agr, telegram k, k .data′, k .ack, k .accept, k .disconnect, k .setup, kept-unasked receiving) in
+          rw (
+            unwritten (Ack (isReady s) (numberIn s)) tt,
+            arrived-ack limit ch (drop 1 s) (length b) (isReady s) (numberIn s),
+            heard-ack terms sending (isReady s) (numberIn s),
+          )
+          (heard-told open′ (k .ack) (ackCase terms sending (isReady s) (numberIn s)) ∙ rows)
 
-      -- an A1, in answer to a test
-      accept-told : Only s 6 → Makes opens told (Accept (fields s))
-      unfolding channelArrived onTestAccept answered settled received written badBlock
-      accept-told k =
-          rw (closed, same, req, agr, telegram k, k .data′, k .ack, k .test, k .break, k .accept, k .disconnect, k .setup)
-          (by-not (Makes (passes _) _) (c .channel .tests .out) (λ e. rw e) (λ e. rw e
-          (by (Makes (passes _) _) (badBlock (fields s .block)) (λ z. rw z) (λ z. rw z))))
+      came : {r : Received} {h : Heard} {t : Telegram} {x : ChannelAnswered} → ArrivalOutcome ch r h t x → Reads t → passes b x ≡ tabled
+      unfolding courseOf settled
+      came data-came k = absurd k
+      came ack-came k = absurd k
+      came test-came k = rw (closed, same, req, agr, telegram k, k .data′, k .ack, k .test, k .accept, k .disconnect, k .setup)
+      came break-came k = rw (closed, same, req, agr, telegram k, k .data′, k .ack, k .test, k .break, k .accept, k .disconnect, k .setup)
+      came disconnect-came k = rw (closed, same, req, agr, telegram k, k .data′, k .ack, k .accept, k .disconnect, k .setup)
+      came setup-came k = rw (closed, same, req, agr, telegram k, k .accept, k .setup)
+      came (accept-undue o) h = let k = h .0 in rw (closed, same, req, agr, telegram k, k .accept, k .setup, not-on _ o)
+      came (accept-bad o e) h =
+          let k = h .0 in rw (closed, same, req, agr, telegram k, k .accept, k .setup, not-off _ o, block (rw (h .1) at e))
+      came (accept-came o e) h =
+          let k = h .0 in
+          rw (closed, same, req, agr, telegram k, k .data′, k .ack, k .test, k .break, k .accept, k .disconnect, k .setup, not-off _ o, block (rw (h .1) at e))
+      came malformed-came k = rw (closed, same, req, agr, telegram k)
 
-      -- on an open connection
-      open-told : Makes (tells (buffered limit c id s b)) told (onOpen limit c s (length b))
-      unfolding buffered onOpen channelArrived answered settled received written
+      other-told : (t : Telegram) → NotData t → Reads t → opens t ≡ tabled
+      other-told t n k = rw (unwritten t n) (came (arrival-outcome limit ch (drop 1 s) (length b) t) k)
+
+      buffered-open : buffered limit c id s b ≡ bufferedAt limit (c .end) s b
+      unfolding buffered
+      buffered-open = rw (closed, same, req, agr)
+
+      open-told : tells (buffered limit c id s b) (onOpen limit c s (length b)) ≡ tabled
+      unfolding bufferedAt onOpen arrivedAt
       open-told =
-          rw (closed, same, req, agr)
-          (by-kind s (Makes opens _)
-          (λ k. rw (closed, same, req, agr) at (data-told k))
-          (λ k. rw (closed, same, req, agr) at (ack-told k))
-          (λ k. rw (telegram k, k .data′, k .ack, k .test, k .accept, k .disconnect, k .setup))
-          (λ k. rw (telegram k, k .data′, k .ack, k .test, k .break, k .accept, k .disconnect, k .setup))
-          (λ k. rw (telegram k, k .data′, k .ack, k .accept, k .disconnect, k .setup))
-          (λ k. rw (telegram k, k .accept, k .setup))
-          (λ k. rw (closed, same, req, agr) at (accept-told k))
-          (λ k. rw (telegram k)))
+          rw buffered-open
+          (by-kind s (λ t. opens t ≡ tabled)
+          data-told
+          ack-told
+          (other-told Test tt)
+          (other-told Break tt)
+          (other-told Disconnect tt)
+          (other-told (Setup (fields s)) tt)
+          (λ k. other-told (Accept (fields s)) tt (k, refl))
+          (other-told Malformed tt))
 
   pub arrive-told : arriveSays limit c id s b ≡ toldBy (arrivalTable limit c id s b)
   unfolding arrived buffered
   arrive-told =
       by (Makes (tells _) _) (isClosed c) (λ closed. rw closed) (λ closed.
       by (Makes (tells _) _) (otherId c id) (λ same. rw (closed, same)) (λ same.
-      by (Makes (tells _) _) (isRequesting c) (λ req. reply-told closed same req (other-phase (c .phase) 1 2 req refl)) (λ req.
+      by (Makes (tells _) _) (isRequesting c) (λ req. reply-told closed same req (other-phase (c .phase) phaseRequesting phaseAgreeing req refl)) (λ req.
       by (Makes (tells _) _) (isAgreeing c) (agreeing-told closed same req) (open-told closed same req))))

@@ -1,12 +1,11 @@
 -- How bytes are sorted: a reply and a telegram go by the conditions of specs/Rows.antt, which shut one another out.
-use Prim.Native.Nat.{ℕ, _-_}
-use native.Mathlib.Omega.{arith}
+use Prim.Native.Nat.{ℕ, _≤_}
 use mathlib.Core.Bool.{Bool, true, false, _&&_, _||_, true≢false}
 use mathlib.Core.List.{List}
 use mathlib.Core.Path.{_≡_, refl, sym, ap, _∙_}
 use lib.ListN.{length, getD}
-use lib.Dec.{ltb, leb, eqb}
-use borrow.Author.Tests.{leb-true, eqb-true, eqb-false, lt-ltb, le-ltb, ne-eqb}
+use lib.Dec.{leb, eqb}
+use borrow.Author.Tests.{leb-true, eqb-true, ne-eqb}
 use Rattle.laws.proofs.Branches.{and-off, and-off′}
 use Rattle.laws.proofs.Cases.{by, and-first, and-second}
 use Rattle.opening.specs.Opening.{idOf, replyRead}
@@ -16,7 +15,6 @@ use Rattle.opening.specs.declared.Reply.the-variants.{Positive, Refused, Malfor
 use Rattle.telegram.specs.declared.kinds.Telegram.{Telegram}
 use Rattle.telegram.specs.declared.kinds.Telegram.the-variants.{Data, Ack, Test, Break, Disconnect, Setup, Accept, Malformed}
 use Rattle.connection_rows.specs.Rows.{isData, asksAck, isLast, numberIn, isAck, isReady, isTest, isBreak, isDisconnect, isSetup, isAccept, isTelegram, isRefusal, isPositive}
-use Rattle.connection_rows.proofs.Tests.{alike}
 
 -- which of the seven kinds the bytes are
 pub record Kind (s : List ℕ) (d a t b x u p : Bool) : Type 0 where
@@ -114,11 +112,7 @@ module _ (s : List ℕ) where
       by P (isRefusal s) (λ r. let n = no-channel (search (and-first, and-second)) in refused r (n .0) (n .1)) (λ r.
       by P (isPositive receive s) (λ p. let n = no-channel (search (and-first, and-second)) in positive r p (n .0) (n .1)) (none r))
 
--- data of two bytes has one behind its first
-pub two-bytes : (s : List ℕ) → isData s ≡ true → eqb (length s) 2 ≡ ltb (length s - 1) 2
+-- data has two bytes or more
+pub data-bytes : (s : List ℕ) → isData s ≡ true → 2 ≤ length s
 unfolding isData
-two-bytes s d =
-    let two = leb-true 2 (length s) (search (and-first, and-second)) in
-    alike _ _
-    (λ e. let h = eqb-true (length s) 2 e in lt-ltb (length s - 1) 2 (omega arith))
-    (λ e. let h = eqb-false (length s) 2 e in le-ltb (length s - 1) 2 (omega arith))
+data-bytes s d = leb-true 2 (length s) (search (and-first, and-second))

@@ -14,15 +14,16 @@ use Rattle.telegram.specs.Kinds.{disconnectOf}
 use Rattle.telegram.specs.Cutting.{framesOf}
 use Rattle.settings.specs.declared.Settings.{Settings}
 use Rattle.sender.specs.Sending.{accepted}
-use Rattle.receiver.specs.Receiving.{waiting, settled}
+use Rattle.receiver.specs.Receiving.{waiting}
+use Rattle.receiver.proofs.Laws.{settled-leaves}
 use Rattle.channel.specs.Opened.{withSender, withReceiver}
+use Rattle.open_end.specs.declared.answers.Said.{Said}
+use Rattle.open_end.specs.Answers.{plain}
 use Rattle.connection.specs.declared.Connection.{Connection}
-use Rattle.connection.specs.declared.Said.{Said}
-use Rattle.connection.specs.Numbers.{plain}
-use Rattle.connection.specs.Record.{isClosed, isRequesting, isAgreeing, closedRecord, leavingOn, requesting, withChannel}
+use Rattle.connection.specs.Record.{isClosed, isRequesting, isAgreeing, closedRecord, leavingOn, requesting}
 use Rattle.connection.specs.Calls.{closedDue, dueOf}
 use Rattle.connection_rows.specs.Tables.{toldBy, Given, Says}
-use Rattle.connection_rows.specs.Rows.{isData, asksAck, otherId, noMessage, isHolding, ahead, isBeyond, atFirst, waitsUntaken, askedForAck, thrownAway, finishes, recordAfter, bufferAfter, arrivalTable, arriveSays, openTable, openSays, recordLater, timeTable, timeSays, hands, handsNone, dueTable, dueSays, sendTable, sendSays, messageTaken, takeTable, takeSays, closeTable, closeSays}
+use Rattle.connection_rows.specs.Rows.{isData, asksAck, otherId, noMessage, isHolding, ahead, isBeyond, atFirst, waitsUntaken, onChannel, askedForAck, thrownAway, finishes, recordAfter, bufferAfter, arrivalTable, arriveSays, openTable, openSays, recordLater, timeTable, timeSays, hands, handsNone, dueTable, dueSays, sendTable, sendSays, messageTaken, takeTable, takeSays, closeTable, closeSays}
 use Rattle.connection_rows.proofs.Tables.{Leaving, given, says, every}
 use Rattle.connection_rows.proofs.Bytes.{telegram, ack-kind}
 use Rattle.connection_rows.proofs.Arrival.{arrive-told}
@@ -114,7 +115,7 @@ module _ (limit : ℕ) (c : Connection) (id : ℕ) (s b : List ℕ) where
       let free : isHolding c ≡ false = not-true (isHolding c) (search (and-first, and-second)) in
       let far : eqb (ahead c s) 0 ≡ false = not-true (eqb (ahead c s) 0) (search (and-first, and-second)) in
       let near : isBeyond c s ≡ false = not-true (isBeyond c s) (search (and-first, and-second)) in
-      let end : eqb (c .channel .sender .acked + ahead c s) (framesOf (c .channel .sender .length)) ≡ true = search (and-first, and-second) in
+      let end : eqb (c .end .channel .sender .acked + ahead c s) (framesOf (c .end .channel .sender .length)) ≡ true = search (and-first, and-second) in
       told-done ∙ rw (closed, same, req, agr, telegram k, k .data′, k .ack, k .accept, k .setup, some, free, far, near, end)
 
   -- "The message is done when its last frame is acknowledged, and the answer to that Ack says so"
@@ -126,12 +127,12 @@ module _ (limit : ℕ) (c : Connection) (id : ℕ) (s b : List ℕ) where
 
 -- row 5's Ack is "not ready"
 pub asked-not-ready : (c : Connection) (s : List ℕ) → waitsUntaken c s ≡ true → asksAck s ≡ true
-    → askedForAck c s .channel .receiver .ack ≡ record { due = true; ready = false; number = c .channel .receiver .at .expected }
-unfolding settled
+    → askedForAck c s .end .channel .receiver .ack ≡ record { due = true; ready = false; number = c .end .channel .receiver .at .expected }
 asked-not-ready c s w a =
+    let r = c .end .channel .receiver in
     let d : isData s ≡ true = search (and-first, and-second) in
-    let u : waiting (c .channel .receiver) ≡ true = search (and-first, and-second) in
-    rw (d, a, u)
+    let u : waiting r ≡ true = search (and-first, and-second) in
+    rw (d, a) (settled-leaves r true false (r .at) (r .complete) .ack ∙ rw u)
 
 -- ---- open
 
@@ -189,7 +190,7 @@ module _ (limit : ℕ) (c : Connection) (n : ℕ) where
   pub send-row : (m : ℕ) → (sendSays limit c n .0 .number ≡ m) ↔ Given m (sendSays limit c n .1) (sendTable limit c n)
   send-row = given (sendTable limit c n) (send-told limit c n)
 
-  pub send-row-0 : Says 0 (withChannel c (withSender (c .channel) (accepted (c .channel .sender) n))) (sendSays limit c n) (sendTable limit c n)
+  pub send-row-0 : Says 0 (onChannel c (withSender (c .end .channel) (accepted (c .end .channel .sender) n))) (sendSays limit c n) (sendTable limit c n)
   send-row-0 = says _ (send-told limit c n) 0 refl
 
   pub send-row-4 : Says 4 c (sendSays limit c n) (sendTable limit c n)
@@ -207,7 +208,7 @@ module _ (c : Connection) (room : ℕ) where
   pub take-row : (n : ℕ) → (takeSays c room .0 .number ≡ n) ↔ Given n (takeSays c room .1) (takeTable c room)
   take-row = given (takeTable c room) (take-told c room)
 
-  pub take-row-0 : Says 0 (c .channel .receiver .complete .length, withChannel c (withReceiver (c .channel) (messageTaken (c .channel .receiver)))) (takeSays c room) (takeTable c room)
+  pub take-row-0 : Says 0 (c .end .channel .receiver .complete .length, onChannel c (withReceiver (c .end .channel) (messageTaken (c .end .channel .receiver)))) (takeSays c room) (takeTable c room)
   take-row-0 = says _ (take-told c room) 0 refl
 
   pub take-row-4 : Says 4 (0, c) (takeSays c room) (takeTable c room)
@@ -225,7 +226,7 @@ module _ (c : Connection) where
   pub close-row : (n : ℕ) → (closeSays c .0 .number ≡ n) ↔ Given n (closeSays c .1) (closeTable c)
   close-row = given (closeTable c) (close-told c)
 
-  pub close-row-0 : Says 0 (if isRequesting c then closedRecord else leavingOn (c .transmit)) (closeSays c) (closeTable c)
+  pub close-row-0 : Says 0 (if isRequesting c then closedRecord else leavingOn (c .end .transmit)) (closeSays c) (closeTable c)
   close-row-0 = says _ (close-told c) 0 refl
 
   pub close-row-4 : Says 4 c (closeSays c) (closeTable c)

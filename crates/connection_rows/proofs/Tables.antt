@@ -10,7 +10,7 @@ use lib.Dec.{eqb}
 use borrow.Author.Tests.{eq-eqb, eqb-false}
 use Rattle.laws.specs.If.{if_then_else_}
 use Rattle.laws.proofs.Cases.{by, either}
-use Rattle.connection.specs.declared.Said.{Said}
+use Rattle.open_end.specs.declared.answers.Said.{Said}
 use Rattle.connection_rows.specs.Tables.{Table, always, _orElse_, toldBy, Given, Says}
 
 module _ {A : Type 0} where

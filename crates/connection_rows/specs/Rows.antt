@@ -7,7 +7,7 @@ use lib.ListN.{length, drop, getD}
 use lib.Dec.{ltb, leb, eqb}
 use Rattle.laws.specs.If.{if_then_else_}
 use Rattle.telegram.specs.Cutting.{declaredOf, framesOf, frameAt}
-use Rattle.opening.specs.Opening.{clear, idOf, refusal, requestOf}
+use Rattle.opening.specs.Opening.{requestId, clear, idOf, refusal, requestOf}
 use Rattle.telegram.specs.declared.payload.Payload.{Payload}
 use Rattle.telegram.specs.Kinds.{top, bit5, bit4, number, fields, ackOf, testOf, disconnectOf, setupOf, acceptOf}
 use Rattle.settings.specs.Settings.{allowed}
@@ -18,14 +18,15 @@ use Rattle.receiver.specs.Receiving.{none, waiting, first, kept, discarded, use
 use Rattle.receiver.specs.declared.Receiver.{Receiver}
 use Rattle.channel.specs.declared.Tests.{Tests}
 use Rattle.channel.specs.declared.Channel.{Channel}
-use Rattle.channel.specs.Opened.{withSender, withReceiver, withTests, withAccept, quiet, restarted, later, ranOut, testDue}
-use Rattle.connection.specs.declared.Attempt.{Attempt}
+use Rattle.channel.specs.Opened.{withSender, withReceiver, withTests, withAccept, noneOut, restarted, later, ranOut, testDue}
+use Rattle.open_end.specs.declared.Frame.{Frame}
+use Rattle.open_end.specs.declared.answers.Said.{Said}
+use Rattle.open_end.specs.Answers.{plain}
+use Rattle.open_end.specs.OpenEnd.{noFrame, withChannel}
+use Rattle.connection.specs.declared.attempt.Attempt.{Attempt}
 use Rattle.connection.specs.declared.Connection.{Connection}
-use Rattle.connection.specs.declared.Frame.{Frame}
-use Rattle.connection.specs.declared.Said.{Said}
-use Rattle.connection.specs.Numbers.{plain}
-use Rattle.connection.specs.Record.{requestId, isClosed, isRequesting, isAgreeing, isOpen, closedRecord, leavingOn, requesting, agreeing, ownFields, opened, withAttempt, withChannel, hears}
-use Rattle.connection.specs.Calls.{waitsOn, repeatDue, attemptOut, noFrame, opening, arrived, buffered, elapsed, dueOf, sentBy, takenBy, closed}
+use Rattle.connection.specs.Record.{isClosed, isRequesting, isAgreeing, isOpen, closedRecord, leavingOn, requesting, agreeing, ownFields, opened, withAttempt, withOpenEnd, hears}
+use Rattle.connection.specs.Calls.{waitsOn, repeatDue, attemptOut, opening, arrived, buffered, elapsed, dueOf, sentBy, takenBy, closed}
 use Rattle.connection_rows.specs.Tables.{row, Table, always, _orElse_}
 
 -- ---- the kinds of frame, by their bytes
@@ -109,7 +110,7 @@ notAwaited c s = isAgreeing c && not (isAccept s || isDisconnect s)
 
 -- "An A1 on an open connection only answers a test .. with no test out it gives 4"
 abbrev pub noTestOut : Connection → List ℕ → Bool
-noTestOut c s = isOpen c && isAccept s && not (c .channel .tests .out)
+noTestOut c s = isOpen c && isAccept s && not (c .end .channel .tests .out)
 
 -- row 4, "kind .. not due in this state (every A0 ..)"
 abbrev pub kindNotDue : Connection → List ℕ → Bool
@@ -125,23 +126,23 @@ refused c s = isRequesting c && isRefusal s
 
 -- row 12, "data out of place": its number is not the expected one
 abbrev pub outOfPlace : Connection → List ℕ → Bool
-outOfPlace c s = isOpen c && isData s && not (eqb (numberIn s) (c .channel .receiver .at .expected))
+outOfPlace c s = isOpen c && isData s && not (eqb (numberIn s) (c .end .channel .receiver .at .expected))
 
 -- "how far it lies ahead, modulo 16, of the oldest unacknowledged frame"
 abbrev pub ahead : Connection → List ℕ → ℕ
-ahead c s = distance (c .channel .sender) (numberIn s)
+ahead c s = distance (c .end .channel .sender) (numberIn s)
 
 -- ".. beyond that range": "the number of unacknowledged frames of this block ever handed over"
 abbrev pub isBeyond : Connection → List ℕ → Bool
-isBeyond c s = ltb (c .channel .sender .high - c .channel .sender .acked) (ahead c s)
+isBeyond c s = ltb (c .end .channel .sender .high - c .end .channel .sender .acked) (ahead c s)
 
 -- "no message is in sending"
 abbrev pub noMessage : Connection → Bool
-noMessage c = eqb (c .channel .sender .length) 0
+noMessage c = eqb (c .end .channel .sender .length) 0
 
 -- "data is held"
 abbrev pub isHolding : Connection → Bool
-isHolding c = ltb 0 (c .channel .sender .hold)
+isHolding c = ltb 0 (c .end .channel .sender .hold)
 
 -- row 12, "an Ack that changes nothing": with no message, during a hold, "Distance 0 with RS 1", or with "a distance beyond that range"
 abbrev pub changesNothing : Connection → List ℕ → Bool
@@ -152,19 +153,19 @@ changesNothing c s =
 abbrev pub notReadyTooOften : Connection → List ℕ → Bool
 notReadyTooOften c s =
     isOpen c && isAck s && eqb (ahead c s) 0 && not (isReady s)
-    && ltb (c .channel .parameters .terms .repeats) (c .channel .sender .count + 1)
+    && ltb (c .end .channel .parameters .terms .repeats) (c .end .channel .sender .count + 1)
 
 -- "A frame with the expected number"
 abbrev pub inOrder : Connection → List ℕ → Bool
-inOrder c s = isOpen c && isData s && eqb (numberIn s) (c .channel .receiver .at .expected)
+inOrder c s = isOpen c && isData s && eqb (numberIn s) (c .end .channel .receiver .at .expected)
 
 -- row 5, "in-order data while one waits untaken"
 abbrev pub waitsUntaken : Connection → List ℕ → Bool
-waitsUntaken c s = inOrder c s && waiting (c .channel .receiver)
+waitsUntaken c s = inOrder c s && waiting (c .end .channel .receiver)
 
 -- "thrown away .. up to and including the next EOM"
 unfoldable pub throwsAway : Connection → Bool
-throwsAway c = c .channel .receiver .at .discarding
+throwsAway c = c .end .channel .receiver .at .discarding
 
 -- in-order data that is not thrown away, which rows 7 and 9 judge: "Frames thrown away need no buffer"
 abbrev pub isJudged : Connection → List ℕ → Bool
@@ -172,15 +173,15 @@ isJudged c s = inOrder c s && not (throwsAway c)
 
 -- the next data is a message's first
 abbrev pub atFirst : Connection → Bool
-atFirst c = first (c .channel .receiver)
+atFirst c = first (c .end .channel .receiver)
 
 -- the declared length of the message that data belongs to: "Two length bytes, high first"
 abbrev pub declared : Connection → List ℕ → ℕ
-declared c s = if atFirst c then declaredOf (getD s 1 0) (getD s 2 0) else c .channel .receiver .at .begun .length
+declared c s = if atFirst c then declaredOf (getD s 1 0) (getD s 2 0) else c .end .channel .receiver .at .begun .length
 
 -- the message's bytes with those of this data: "length bytes left out"
 abbrev pub reached : Connection → List ℕ → ℕ
-reached c s = if atFirst c then length s - 3 else c .channel .receiver .at .fill + (length s - 1)
+reached c s = if atFirst c then length s - 3 else c .end .channel .receiver .at .fill + (length s - 1)
 
 -- row 7, "lent buffer shorter than the declared length", "a later frame"
 abbrev pub shortLater : Connection → List ℕ → (room : ℕ) → Bool
@@ -202,13 +203,17 @@ shortFirst c s room = isJudged c s && atFirst c && ltb room (declared c s)
 
 -- ---- a frame arrives: what is left
 
+-- a record with another channel
+abbrev pub onChannel : Connection → Channel → Connection
+onChannel c ch = withOpenEnd c (withChannel (c .end) ch)
+
 -- "nothing changes, except an asked-for Ack"; where one becomes due, a break returns to this place
 abbrev pub askedForAck : Connection → List ℕ → Connection
-askedForAck c s = withChannel c (withReceiver (c .channel) (kept (c .channel .receiver) (isData s && asksAck s)))
+askedForAck c s = onChannel c (withReceiver (c .end .channel) (kept (c .end .channel .receiver) (isData s && asksAck s)))
 
 -- "thrown away": numbered and acknowledged, and so are those that follow up to and including the next EOM
 abbrev pub thrownAway : Connection → List ℕ → Connection
-thrownAway c s = withChannel c (withReceiver (c .channel) (discarded (c .channel .receiver) (asksAck s) (isLast s)))
+thrownAway c s = onChannel c (withReceiver (c .end .channel) (discarded (c .end .channel .receiver) (asksAck s) (isLast s)))
 
 -- an Ack "from 1 up to the number of unacknowledged frames .. acknowledges that many", of a message in sending and with no hold
 abbrev pub acknowledges : Connection → List ℕ → Bool
@@ -218,43 +223,43 @@ acknowledges c s =
 -- "The message is done when its last frame is acknowledged, and the answer to that Ack says so"
 abbrev pub finishes : Connection → List ℕ → Bool
 finishes c s =
-    acknowledges c s && eqb (c .channel .sender .acked + ahead c s) (framesOf (c .channel .sender .length))
+    acknowledges c s && eqb (c .end .channel .sender .acked + ahead c s) (framesOf (c .end .channel .sender .length))
 
 -- the sending half after an Ack that is used
 abbrev pub sendingAfter : Connection → List ℕ → Sender
 sendingAfter c s =
-    if eqb (ahead c s) 0 then again (c .channel .sender) (c .channel .parameters .terms .pause) (c .channel .sender .gap)
-    else if finishes c s then finished (c .channel .sender) (ahead c s) (heldFor (c .channel .parameters .terms) (isReady s))
-    else acknowledged (c .channel .sender) (ahead c s) (heldFor (c .channel .parameters .terms) (isReady s))
+    if eqb (ahead c s) 0 then again (c .end .channel .sender) (c .end .channel .parameters .terms .«t_wait») (c .end .channel .sender .gap)
+    else if finishes c s then finished (c .end .channel .sender) (ahead c s) (heldFor (c .end .channel .parameters .terms) (isReady s))
+    else acknowledged (c .end .channel .sender) (ahead c s) (heldFor (c .end .channel .parameters .terms) (isReady s))
 
 -- the receiving half after data that is used or thrown away
 abbrev pub receivingAfter : Connection → List ℕ → Receiver
 receivingAfter c s =
-    if throwsAway c then discarded (c .channel .receiver) (asksAck s) (isLast s)
-    else if isLast s then completed (c .channel .receiver) (asksAck s) (record { length = declared c s })
-    else used (c .channel .receiver) (asksAck s) (record { length = declared c s }) (reached c s)
+    if throwsAway c then discarded (c .end .channel .receiver) (asksAck s) (isLast s)
+    else if isLast s then completed (c .end .channel .receiver) (asksAck s) (record { length = declared c s })
+    else used (c .end .channel .receiver) (asksAck s) (record { length = declared c s }) (reached c s)
 
 -- an open channel after a telegram answered 0
 abbrev pub channelAfter : Connection → List ℕ → Channel
 channelAfter c s =
     restarted
-    (if isData s then withReceiver (c .channel) (receivingAfter c s)
-    else if isAck s then withSender (c .channel) (sendingAfter c s)
-    else if isTest s then withAccept (c .channel) true
-    else if isBreak s then withReceiver (c .channel) (returned (c .channel .receiver))
-    else withTests (c .channel) (quiet (c .channel .tests .interval)))
+    (if isData s then withReceiver (c .end .channel) (receivingAfter c s)
+    else if isAck s then withSender (c .end .channel) (sendingAfter c s)
+    else if isTest s then withAccept (c .end .channel) true
+    else if isBreak s then withReceiver (c .end .channel) (returned (c .end .channel .receiver))
+    else withTests (c .end .channel) (noneOut (c .end .channel .tests .interval)))
 
 -- the record after a frame answered 0: the D0's transmit ID, a disconnect, the A1 that opens, or a telegram on the open channel
 abbrev pub recordAfter : Connection → List ℕ → Connection
 recordAfter c s =
     if isRequesting c then agreeing c (idOf (getD s 4 0) (getD s 5 0))
-    else if isDisconnect s then leavingOn (c .transmit)
+    else if isDisconnect s then leavingOn (c .end .transmit)
     else if isAgreeing c then opened c (fields s)
-    else withChannel c (channelAfter c s)
+    else onChannel c (channelAfter c s)
 
 -- the buffer after a frame answered 0: data that is not thrown away is copied "behind what already stands there"
 abbrev pub bufferAfter : Connection → List ℕ → (b : List ℕ) → List ℕ
-bufferAfter c s b = if isJudged c s then copied (c .channel .receiver) (drop 1 s) b else b
+bufferAfter c s b = if isJudged c s then copied (c .end .channel .receiver) (drop 1 s) b else b
 
 -- ---- the tables
 
@@ -302,19 +307,19 @@ runsOut timer n = ltb 0 timer && leb timer n
 -- row 8, "opening repeats .. used up": a phase "repeats while its own repeats are below MNTC"
 abbrev pub openingUsedUp : Connection → ℕ → Bool
 openingUsedUp c n =
-    (isRequesting c || isAgreeing c) && runsOut (c .attempt .wait) n && not (ltb (c .attempt .repeats) (c .settings .requests))
+    (isRequesting c || isAgreeing c) && runsOut (c .attempt .wait) n && not (ltb (c .attempt .repeats) (c .settings .mntc))
 
 -- row 8, "repeats .. used up": "if the count would exceed the allowed repeats"
 abbrev pub repeatsUsedUp : Connection → ℕ → Bool
 repeatsUsedUp c n =
-    isOpen c && runsOut (c .channel .sender .wait) n
-    && ltb (c .channel .parameters .terms .repeats) (c .channel .sender .count + 1)
+    isOpen c && runsOut (c .end .channel .sender .wait) n
+    && ltb (c .end .channel .parameters .terms .repeats) (c .end .channel .sender .count + 1)
 
 -- row 8, "tests used up": "if the count would exceed the allowance"
 abbrev pub testsUsedUp : Connection → ℕ → Bool
 testsUsedUp c n =
-    isOpen c && runsOut (c .channel .tests .wait) n
-    && ltb (c .channel .parameters .allowed) (c .channel .tests .unanswered + 1)
+    isOpen c && runsOut (c .end .channel .tests .wait) n
+    && ltb (c .end .channel .parameters .allowed) (c .end .channel .tests .unanswered + 1)
 
 -- a request while a reply is awaited, n tenths later: a wait that runs out makes a repeat due
 abbrev pub attemptAfter : Attempt → ℕ → Attempt
@@ -333,8 +338,8 @@ abbrev pub recordLater : Connection → ℕ → Connection
 recordLater c n =
     if isClosed c then c
     else if isRequesting c || isAgreeing c then withAttempt c (attemptAfter (c .attempt) n)
-    else withChannel c
-    (withTests (withSender (c .channel) (sendingLater (c .channel .sender) n)) (testsAfter (c .channel .tests) n))
+    else onChannel c
+    (withTests (withSender (c .end .channel) (sendingLater (c .end .channel .sender) n)) (testsAfter (c .end .channel .tests) n))
 
 -- "Time and due calls are good in every state": 0, or 8
 abbrev pub timeTable : Connection → ℕ → Table Connection
@@ -365,20 +370,20 @@ testOut c =
 -- "Sending order .. CA and test, break, Ack, then data, CS, DC. Ties (house): CA, test; DC, CS, data"; row 7, "lent message not of the accepted length", "only when the frame to hand over is data"
 abbrev pub dueTable : Connection → (m : List ℕ) → Table (Bool × Frame × Connection)
 dueTable c m =
-    row (isOpen c && c .channel .accept) 0
-    (hands (c .transmit) (acceptOf (c .channel .parameters .own)) (withChannel c (restarted (withAccept (c .channel) false))))
-    orElse row (isOpen c && testDue (c .channel)) 0 (hands (c .transmit) testOf (withChannel c (restarted (testOut (c .channel)))))
-    orElse row (isOpen c && c .channel .receiver .ack .due) 0
-    (hands (c .transmit) (ackOf (c .channel .receiver .ack .ready) (c .channel .receiver .ack .number))
-    (withChannel c (restarted (withReceiver (c .channel) (ackHanded (c .channel .receiver))))))
-    orElse row (isClosed c && c .leaving) 0 (hands (c .transmit) disconnectOf closedRecord)
+    row (isOpen c && c .end .channel .accept) 0
+    (hands (c .end .transmit) (acceptOf (c .end .channel .parameters .own)) (onChannel c (restarted (withAccept (c .end .channel) false))))
+    orElse row (isOpen c && testDue (c .end .channel)) 0 (hands (c .end .transmit) testOf (onChannel c (restarted (testOut (c .end .channel)))))
+    orElse row (isOpen c && c .end .channel .receiver .ack .due) 0
+    (hands (c .end .transmit) (ackOf (c .end .channel .receiver .ack .ready) (c .end .channel .receiver .ack .number))
+    (onChannel c (restarted (withReceiver (c .end .channel) (ackHanded (c .end .channel .receiver))))))
+    orElse row (isClosed c && c .leaving) 0 (hands (c .end .transmit) disconnectOf closedRecord)
     orElse row (isRequesting c && c .attempt .due) 0
     (hands requestId (requestOf (c .settings .unit) (c .settings .receive)) (withAttempt c (attemptOut c)))
-    orElse row (isAgreeing c && c .attempt .due) 0 (hands (c .transmit) (setupOf (ownFields (c .settings))) (withAttempt c (attemptOut c)))
-    orElse row (isOpen c && frameDue (c .channel .sender) && not (eqb (length m) (c .channel .sender .length))) 7 (handsNone c)
-    orElse row (isOpen c && frameDue (c .channel .sender)) 0
-    (hands (c .transmit) (frameAt m (c .channel .parameters .terms .block) (firstNumber (c .channel .sender)) (c .channel .sender .next))
-    (withChannel c (restarted (withSender (c .channel) (advanced (c .channel .parameters .terms) (c .channel .sender))))))
+    orElse row (isAgreeing c && c .attempt .due) 0 (hands (c .end .transmit) (setupOf (ownFields (c .settings))) (withAttempt c (attemptOut c)))
+    orElse row (isOpen c && frameDue (c .end .channel .sender) && not (eqb (length m) (c .end .channel .sender .length))) 7 (handsNone c)
+    orElse row (isOpen c && frameDue (c .end .channel .sender)) 0
+    (hands (c .end .transmit) (frameAt m (c .end .channel .parameters .terms .block) (firstNumber (c .end .channel .sender)) (c .end .channel .sender .next))
+    (onChannel c (restarted (withSender (c .end .channel) (advanced (c .end .channel .parameters .terms) (c .end .channel .sender))))))
     orElse always (plain 0) (handsNone c)
 
 -- what a due call says, hands over and leaves
@@ -393,7 +398,7 @@ sendTable limit c n =
     row (not (isOpen c)) 4 c
     orElse row (not (noMessage c)) 5 c
     orElse row (eqb n 0 || ltb limit n) 6 c
-    orElse always (plain 0) (withChannel c (withSender (c .channel) (accepted (c .channel .sender) n)))
+    orElse always (plain 0) (onChannel c (withSender (c .end .channel) (accepted (c .end .channel .sender) n)))
 
 -- what a send says and leaves
 abbrev pub sendSays : (limit : ℕ) → Connection → (n : ℕ) → Said × Connection
@@ -407,10 +412,10 @@ messageTaken r = record { at = r .at; back = r .back; complete = none; ack = r .
 abbrev pub takeTable : Connection → (room : ℕ) → Table (ℕ × Connection)
 takeTable c room =
     row (not (isOpen c)) 4 (0, c)
-    orElse row (not (waiting (c .channel .receiver))) 5 (0, c)
-    orElse row (ltb room (c .channel .receiver .complete .length)) 7 (0, c)
+    orElse row (not (waiting (c .end .channel .receiver))) 5 (0, c)
+    orElse row (ltb room (c .end .channel .receiver .complete .length)) 7 (0, c)
     orElse always (plain 0)
-    (c .channel .receiver .complete .length, withChannel c (withReceiver (c .channel) (messageTaken (c .channel .receiver))))
+    (c .end .channel .receiver .complete .length, onChannel c (withReceiver (c .end .channel) (messageTaken (c .end .channel .receiver))))
 
 -- what a take says, the length that it shows, and what it leaves
 abbrev pub takeSays : Connection → (room : ℕ) → Said × (ℕ × Connection)
@@ -420,7 +425,7 @@ takeSays c room = (takenBy c room .told .said, (takenBy c room .len, takenBy c r
 abbrev pub closeTable : Connection → Table Connection
 closeTable c =
     row (isClosed c) 4 c
-    orElse always (plain 0) (if isRequesting c then closedRecord else leavingOn (c .transmit))
+    orElse always (plain 0) (if isRequesting c then closedRecord else leavingOn (c .end .transmit))
 
 -- what a close says and leaves
 abbrev pub closeSays : Connection → Said × Connection

@@ -4,8 +4,8 @@ use mathlib.Core.Bool.{Bool, true, false}
 use mathlib.Core.Logic.{_⊎_, _↔_}
 use mathlib.Core.Path.{_≡_}
 use Rattle.laws.specs.If.{if_then_else_}
-use Rattle.connection.specs.declared.Said.{Said}
-use Rattle.connection.specs.Numbers.{plain}
+use Rattle.open_end.specs.declared.answers.Said.{Said}
+use Rattle.open_end.specs.Answers.{plain}
 
 -- a row: its condition, what is said, and what it leaves
 pub record Row (A : Type 0) : Type 0 where

@@ -1,13 +1,19 @@
 // A connection driven by hand: each line of standard input is a call of the record, and each answer is a line of standard
 // output, written before the next line is waited for. A line that is no call answers "error line N" and changes nothing.
+// An answer that cannot be written ends the program.
 ghost use Prim.Native.Nat.{_≤_};
-ghost use Rattle.io.specs.Counts.{Counts};
 use connection::Answered;
+use connection::Arrived;
 use connection::Connection;
-use connection::Frame;
-use connection::Told;
-use connection::shown;
+use open_end::Frame;
+use open_end::answers::Told;
+use open_end::shown;
 use settings::Settings;
+use text::output::Output;
+use text::reading;
+use text::reading::Bytes;
+use text::reading::Number;
+use text::writing;
 
 // What is kept from line to line, beside the buffers that main makes.
 struct Console {
@@ -18,6 +24,9 @@ struct Console {
     length: usize,
     // How many lines were read.
     lines: u64,
+    // The input has ended.
+    ended: bool,
+    output: Output,
 }
 
 // A line that was read: how many characters it has, and whether the input ended with it.
@@ -51,14 +60,11 @@ enum Call {
     Buffer,
 }
 
-// What a word or some words stand for.
-enum Number {
-    Value(u64),
-    Bad,
-}
-
 // The longest line, without its end.
 const LONGEST: usize = 16000;
+
+// What stands for a number that its setting has no place for.
+const BEYOND: u64 = 65536;
 
 // The names of the calls, as the numbers that their letters make (see letters).
 const NEW: u64 = 0x6E6577;
@@ -82,43 +88,34 @@ const ROOM: u64 = 0x726F6F6D;
 const BUFFER: u64 = 0x627566666572;
 
 fn main() {
-    let mut line = [0; 16001];
+    // A line, one character too many, and a CR behind it.
+    let mut line = [0; 16002];
     let mut bytes = [0; 8192];
     let mut buffer = [0; 4096];
     let mut message = [0; 4096];
     talk(&mut line, &mut bytes, &mut buffer, &mut message);
 }
 
-// Reads and answers until the input ends. The count of turns is more than any run uses up.
+// Reads and answers until the input ends or an answer cannot be written. The count of turns is more than any run uses up.
 fn talk(line: &mut [u8], bytes: &mut [u8], buffer: &mut [u8], message: &mut [u8]) {
-    let mut c = fresh(0);
+    let mut c = fresh();
     let mut turns = u64::MAX;
     while 0 < turns {
         turns -= 1;
-        let read = read_line(line);
-        let fill = read.fill;
-        turns = turns_left(turns, read.ended);
-        c = c.answer(shown(line, fill), bytes, buffer, message);
+        c = c.turn(line, bytes, buffer, message);
+        turns = c.turns_left(turns);
     }
 }
 
-// None when the input has ended.
-fn turns_left(turns: u64, ended: bool) -> u64
-    ensures { λ r. ⌜ r ≤ turns ⌝ }
-{
-    if ended {
-        return 0;
-    }
-    turns
-}
-
-// A closed connection, after some lines.
-fn fresh(lines: u64) -> Console {
+// A closed connection, and no line read.
+fn fresh() -> Console {
     Console {
         connection: Connection::closed(),
         room: 1024,
         length: 0,
-        lines,
+        lines: 0,
+        ended: false,
+        output: Output::fresh(),
     }
 }
 
@@ -133,11 +130,29 @@ fn read_line(line: &mut [u8]) -> Line {
             return Line { fill, ended: true };
         };
         if b == b'\n' {
-            return Line { fill, ended: false };
+            return Line {
+                fill: without_return(line, fill),
+                ended: false,
+            };
         }
-        fill = put(b, line, fill);
+        fill = writing::byte(line, fill, b);
     }
     Line { fill, ended: true }
+}
+
+// A line's length without the CR that belongs to its end.
+fn without_return(line: &[u8], fill: usize) -> usize {
+    if fill == 0 {
+        return 0;
+    }
+    let last = fill - 1;
+    if line.len() <= last {
+        return fill;
+    }
+    if line[last] == b'\r' {
+        return last;
+    }
+    fill
 }
 
 fn read_character() -> Read {
@@ -149,24 +164,57 @@ fn read_character() -> Read {
     Read::Character(one[0])
 }
 
-// Puts a character at a place of a text, if there is room, and answers the next place.
-fn put(b: u8, text: &mut [u8], at: usize) -> usize {
-    if text.len() <= at {
-        return at;
-    }
-    text[at] = b;
-    at + 1
-}
-
 impl Console {
-    fn next_line(mut self) -> Console {
+    // Reads a line and answers it.
+    fn turn(
+        self,
+        line: &mut [u8],
+        bytes: &mut [u8],
+        buffer: &mut [u8],
+        message: &mut [u8],
+    ) -> Console {
+        let read = read_line(line);
+        let fill = read.fill;
+        self.next_line(read.ended)
+            .answer(shown(line, fill), bytes, buffer, message)
+    }
+
+    // None when the input has ended or the output takes no more.
+    fn turns_left(self, turns: u64) -> u64
+        ensures { λ r. ⌜ r ≤ turns ⌝ }
+    {
+        if self.ended {
+            return 0;
+        }
+        let output = self.output;
+        if output.failed {
+            return 0;
+        }
+        turns
+    }
+
+    fn next_line(mut self, ended: bool) -> Console {
         self.lines = std::num::wrapping_add_u64(self.lines, 1);
+        self.ended = ended;
         self
     }
 
     fn holding(mut self, connection: Connection) -> Console {
         self.connection = connection;
         self
+    }
+
+    fn say(mut self, text: &[u8]) -> Console {
+        let output = self.output;
+        let next = output.say(text);
+        self.output = next;
+        self
+    }
+
+    // Ends the line that is written up to a place, and says it.
+    fn say_line(self, text: &mut [u8], at: usize) -> Console {
+        let end = writing::byte(text, at, b'\n');
+        self.say(shown(text, end))
     }
 
     // Answers a line; it is understood whole before anything is done.
@@ -178,7 +226,7 @@ impl Console {
         message: &mut [u8],
     ) -> Console {
         let call = read_call(line, bytes);
-        self.next_line().run(call, bytes, buffer, message)
+        self.run(call, bytes, buffer, message)
     }
 
     fn run(self, call: Call, bytes: &[u8], buffer: &mut [u8], message: &mut [u8]) -> Console {
@@ -201,25 +249,27 @@ impl Console {
 
     // A line that is no call.
     fn wrong(self) -> Console {
-        say(b"error line ");
-        io::print_decimal(1, self.lines);
-        say(b"\n");
-        self
+        let mut text = [0; 64];
+        let at = writing::bytes(&mut text, 0, b"error line ");
+        let end = writing::decimal(&mut text, at, self.lines);
+        self.say_line(&mut text, end)
     }
 
     // Says an answer, and goes on with the connection that it leaves.
     fn answered(self, answered: Answered) -> Console {
         let told = answered.told;
         let next = answered.connection;
-        tell(told);
-        say(b"\n");
-        self.holding(next)
+        let mut text = [0; 64];
+        let end = tell(&mut text, told);
+        self.holding(next).say_line(&mut text, end)
     }
 
-    fn renewed(self, buffer: &mut [u8]) -> Console {
+    fn renewed(mut self, buffer: &mut [u8]) -> Console {
         clear(buffer);
-        say(b"0\n");
-        fresh(self.lines)
+        self.connection = Connection::closed();
+        self.room = 1024;
+        self.length = 0;
+        self.say(b"0\n")
     }
 
     fn opening(self, settings: Settings) -> Console {
@@ -230,7 +280,13 @@ impl Console {
     fn arriving(self, id: u16, bytes: &[u8], buffer: &mut [u8]) -> Console {
         let connection = self.connection;
         let room = self.room;
-        self.answered(arrive(connection, id, bytes, buffer, room))
+        let arrived = arrive(connection, id, bytes, buffer, room);
+        let told = arrived.told;
+        let next = arrived.connection;
+        self.answered(Answered {
+            told,
+            connection: next,
+        })
     }
 
     fn waiting(self, tenths: u64) -> Console {
@@ -251,12 +307,10 @@ impl Console {
         let given = due.given;
         let frame = due.frame;
         let next = due.connection;
-        tell(told);
-        if given {
-            say_frame(frame);
-        }
-        say(b"\n");
-        self.holding(next)
+        let mut text = [0; 64];
+        let at = tell(&mut text, told);
+        let end = with_frame(&mut text, at, given, frame);
+        self.holding(next).say_line(&mut text, end)
     }
 
     // A message that is accepted is kept, to be lent from now on.
@@ -267,7 +321,7 @@ impl Console {
         if said.number != 0 {
             return self.answered(sent);
         }
-        self.length = keep(bytes, message);
+        self.length = writing::bytes(message, 0, bytes);
         self.answered(sent)
     }
 
@@ -277,13 +331,10 @@ impl Console {
         let told = taken.told;
         let len = taken.len;
         let next = taken.connection;
-        tell(told);
-        if 0 < len {
-            say(b" ");
-            say_pairs(shown(buffer, len));
-        }
-        say(b"\n");
-        self.holding(next)
+        let mut text = [0; 12320];
+        let at = tell(&mut text, told);
+        let end = writing::pairs(&mut text, at, shown(buffer, len));
+        self.holding(next).say_line(&mut text, end)
     }
 
     fn closing(self) -> Console {
@@ -293,87 +344,64 @@ impl Console {
 
     fn lending(mut self, room: usize) -> Console {
         self.room = room;
-        say(b"0\n");
-        self
+        self.say(b"0\n")
     }
 
     fn showing(self, buffer: &[u8]) -> Console {
         let room = self.room;
-        say_pairs(shown(buffer, room));
-        say(b"\n");
-        self
+        if room == 0 {
+            return self.say(b"\n");
+        }
+        let mut text = [0; 12320];
+        let at = writing::pairs(&mut text, 0, shown(buffer, room));
+        let end = writing::byte(&mut text, at, b'\n');
+        self.say(reading::part(&text, 1, end))
     }
 }
 
 // A frame arrives, the first room bytes of the buffer being lent.
-fn arrive(c: Connection, id: u16, bytes: &[u8], buffer: &mut [u8], room: usize) -> Answered {
+fn arrive(c: Connection, id: u16, bytes: &[u8], buffer: &mut [u8], room: usize) -> Arrived {
     if buffer.len() < room {
         return c.arrive(id, bytes, buffer);
     }
     c.arrive(id, bytes, &mut buffer[..room])
 }
 
-// Says an answer's number and what it carries.
-fn tell(told: Told) {
+// Writes an answer's number and what it carries to the start of a text, and answers the place behind it.
+fn tell(text: &mut [u8], told: Told) -> usize {
     let said = told.said;
-    let opcode = said.opcode;
-    io::print_decimal(1, said.number as u64);
-    if said.done {
-        say(b" done");
-    }
-    if said.number == 11 {
-        say(&[b' ', digit(opcode / 16), digit(opcode % 16)]);
-    }
+    let at = writing::decimal(text, 0, said.number as u64);
+    let at = with_done(text, at, said.done);
+    with_opcode(text, at, said.number == 11, said.opcode)
 }
 
-fn say_frame(frame: Frame) {
-    let id = frame.id;
-    say(
-        &[
-            b' ',
-            digit((id / 256 % 16) as u8),
-            digit((id / 16 % 16) as u8),
-            digit((id % 16) as u8),
-            b' ',
-        ],
-    );
-    let payload = frame.payload;
-    let bytes = payload.bytes;
-    say_pairs(shown(&bytes, payload.len));
-}
-
-// Says bytes as pairs of digits with blanks between; they go out at once.
-fn say_pairs(bytes: &[u8]) {
-    let mut text = [0; 12288];
-    let n = pairs(bytes, &mut text);
-    if n == 0 {
-        return;
-    }
-    say(shown(&text, n - 1));
-}
-
-// Writes bytes as pairs of digits, each with a blank behind it, and answers how many characters they are.
-fn pairs(bytes: &[u8], text: &mut [u8]) -> usize {
-    let mut i = 0;
-    let mut at = 0;
-    while i < bytes.len() {
-        let b = bytes[i];
-        at = put(digit(b / 16), text, at);
-        at = put(digit(b % 16), text, at);
-        at = put(b' ', text, at);
-        i += 1;
+fn with_done(text: &mut [u8], at: usize, done: bool) -> usize {
+    if done {
+        return writing::bytes(text, at, b" done");
     }
     at
 }
 
-// The hexadecimal digit of a number below 16.
-fn digit(n: u8) -> u8 {
-    let d = n % 16;
-    if d < 10 { 48 + d } else { 55 + d }
+fn with_opcode(text: &mut [u8], at: usize, carried: bool, opcode: u8) -> usize {
+    if carried {
+        return writing::pairs(text, at, &[opcode]);
+    }
+    at
 }
 
-fn say(text: &[u8]) {
-    io::write_all(1, text);
+fn with_frame(text: &mut [u8], at: usize, given: bool, frame: Frame) -> usize {
+    if given {
+        return put_frame(text, at, frame);
+    }
+    at
+}
+
+fn put_frame(text: &mut [u8], at: usize, frame: Frame) -> usize {
+    let payload = frame.payload;
+    let bytes = payload.bytes;
+    let blank = writing::byte(text, at, b' ');
+    let id = writing::id(text, blank, frame.id);
+    writing::pairs(text, id, shown(&bytes, payload.len))
 }
 
 fn clear(buffer: &mut [u8]) {
@@ -384,48 +412,17 @@ fn clear(buffer: &mut [u8]) {
     }
 }
 
-// Keeps a message, and answers how many of its bytes there was room for.
-fn keep(bytes: &[u8], message: &mut [u8]) -> usize {
-    let mut i = 0;
-    while i < bytes.len() {
-        if message.len() <= i {
-            return i;
-        }
-        message[i] = bytes[i];
-        i += 1;
-    }
-    i
-}
-
-// How many characters at the start are blanks, or are none.
-fn run(s: &[u8], blank: bool) -> usize
-    ensures { λ r. ⌜ Counts r (now (s .entry)) ⌝ }
-{
-    let mut i = 0;
-    while i < s.len() {
-        if (s[i] == b' ') != blank {
-            return i;
-        }
-        i += 1;
-    }
-    i
-}
-
-fn without_blanks(s: &[u8]) -> &[u8] {
-    let n = run(s, true);
-    &s[n..]
-}
-
 // The first word.
 fn word(s: &[u8]) -> &[u8] {
-    let n = run(s, false);
-    &s[..n]
+    let w = reading::word(s, 0);
+    reading::part(s, w.start, w.end)
 }
 
 // What stands behind the first word, from the next word on.
 fn behind_word(s: &[u8]) -> &[u8] {
-    let n = run(s, false);
-    without_blanks(&s[n..])
+    let w = reading::word(s, 0);
+    let next = reading::word(s, w.end);
+    reading::part(s, next.start, s.len())
 }
 
 // What a line asks for; bytes that it gives are written to the start of bytes.
@@ -439,12 +436,12 @@ fn read_call(line: &[u8], bytes: &mut [u8]) -> Call {
     if line[0] == b'#' {
         return Call::Nothing;
     }
-    let text = without_blanks(line);
-    if text.len() == 0 {
+    let first = word(line);
+    if first.len() == 0 {
         return Call::Nothing;
     }
-    let name = letters(word(text));
-    let words = behind_word(text);
+    let name = letters(first);
+    let words = behind_word(line);
     if words.len() == 0 {
         return read_alone(name);
     }
@@ -472,41 +469,44 @@ fn read_words(name: u64, words: &[u8], bytes: &mut [u8]) -> Call {
         ROOM => read_room(words),
         FRAME => read_frame(words, bytes),
         DUE => match octets(words, bytes) {
-            Number::Value(n) => Call::DueOf(n as usize),
-            Number::Bad => Call::Wrong,
+            Bytes::Count(n) => Call::DueOf(n),
+            _ => Call::Wrong,
         },
         SEND => match octets(words, bytes) {
-            Number::Value(n) => Call::Send(n as usize),
-            Number::Bad => Call::Wrong,
+            Bytes::Count(n) => Call::Send(n),
+            _ => Call::Wrong,
         },
         _ => Call::Wrong,
     }
 }
 
 fn read_time(words: &[u8]) -> Call {
-    match only_number(words, u64::MAX) {
+    match only_number(words) {
         Number::Value(n) => Call::Time(n),
-        Number::Bad => Call::Wrong,
+        _ => Call::Wrong,
     }
 }
 
 fn read_room(words: &[u8]) -> Call {
-    match only_number(words, 4096) {
-        Number::Value(n) => Call::Room(n as usize),
-        Number::Bad => Call::Wrong,
+    let Number::Value(n) = only_number(words) else {
+        return Call::Wrong;
+    };
+    if 4096 < n {
+        return Call::Wrong;
     }
+    Call::Room(n as usize)
 }
 
 fn read_frame(words: &[u8], bytes: &mut [u8]) -> Call {
     let Number::Value(id) = read_id(word(words)) else {
         return Call::Wrong;
     };
-    let Number::Value(n) = octets(behind_word(words), bytes) else {
+    let Bytes::Count(n) = octets(behind_word(words), bytes) else {
         return Call::Wrong;
     };
     Call::Frame {
         id: low16(id),
-        count: n as usize,
+        count: n,
     }
 }
 
@@ -524,143 +524,67 @@ fn letters(word: &[u8]) -> u64 {
     n
 }
 
-// A decimal number, at most most.
-fn decimal(word: &[u8], most: u64) -> Number {
-    if word.len() == 0 {
-        return Number::Bad;
-    }
-    let mut n: u64 = 0;
-    let mut i = 0;
-    while i < word.len() {
-        let c = word[i];
-        if c < b'0' {
-            return Number::Bad;
-        }
-        if b'9' < c {
-            return Number::Bad;
-        }
-        let d = wide(c - b'0');
-        if most / 10 < n {
-            return Number::Bad;
-        }
-        if most - 10 * n < d {
-            return Number::Bad;
-        }
-        n = 10 * n + d;
-        i += 1;
-    }
-    Number::Value(n)
-}
-
 // A decimal number that is the only word.
-fn only_number(words: &[u8], most: u64) -> Number {
+fn only_number(words: &[u8]) -> Number {
     let more = behind_word(words);
     if more.len() == 0 {
-        return decimal(word(words), most);
+        return reading::decimal(word(words));
     }
     Number::Bad
 }
 
-// What a hexadecimal digit of either case stands for, and 16 for any other character.
-fn nibble(c: u8) -> u8 {
-    match c {
-        b'0'..=b'9' => c - 48,
-        b'A'..=b'F' => c - 55,
-        b'a'..=b'f' => c - 87,
-        _ => 16,
-    }
-}
-
 // A CAN ID of one to four digits.
 fn read_id(word: &[u8]) -> Number {
-    if word.len() == 0 {
-        return Number::Bad;
-    }
     if 4 < word.len() {
         return Number::Bad;
     }
-    let mut n: u64 = 0;
-    let mut i = 0;
-    while i < word.len() {
-        let d = nibble(word[i]);
-        if 15 < d {
-            return Number::Bad;
-        }
-        n = 16 * (n % 4096) + wide(d);
-        i += 1;
-    }
-    Number::Value(n)
+    reading::hexadecimal(word)
 }
 
 // The bytes that some words give, a lone - being none, written to the start of bytes; the answer is how many.
-fn octets(words: &[u8], bytes: &mut [u8]) -> Number {
+fn octets(words: &[u8], bytes: &mut [u8]) -> Bytes {
     if words.len() == 0 {
-        return Number::Bad;
+        return Bytes::Bad;
     }
     if words[0] == b'-' {
         let more = behind_word(words);
         if more.len() == 0 {
             return nothing(word(words));
         }
-        return Number::Bad;
+        return Bytes::Bad;
     }
-    hex_pairs(words, bytes)
+    reading::pairs(words, bytes)
 }
 
-fn nothing(word: &[u8]) -> Number {
+fn nothing(word: &[u8]) -> Bytes {
     if word.len() == 1 {
-        return Number::Value(0);
+        return Bytes::Count(0);
     }
-    Number::Bad
+    Bytes::Bad
 }
 
-// Pairs of digits, each within a word.
-fn hex_pairs(words: &[u8], bytes: &mut [u8]) -> Number {
-    let mut n = 0;
-    let mut i = 0;
-    while i < words.len() {
-        if words[i] == b' ' {
-            i += 1;
-            continue;
-        }
-        if words.len() - i < 2 {
-            return Number::Bad;
-        }
-        let high = nibble(words[i]);
-        let low = nibble(words[i + 1]);
-        if 15 < high {
-            return Number::Bad;
-        }
-        if 15 < low {
-            return Number::Bad;
-        }
-        if bytes.len() <= n {
-            return Number::Bad;
-        }
-        bytes[n] = 16 * high + low;
-        n += 1;
-        i += 2;
-    }
-    Number::Value(n as u64)
-}
-
-// The eleven settings, as words.
+// The eleven settings, as words. A number that its setting has no place for is out of range like any other.
 fn read_settings(words: &[u8]) -> Call {
     let mut v: [u64; 11] = [0; 11];
-    let mut left = words.len();
+    let mut beyond = false;
+    let mut at = 0;
     let mut i = 0;
     while i < 11 {
-        let s = last_of(words, left);
-        let Number::Value(n) = decimal(word(s), most(i)) else {
+        let w = reading::word(words, at);
+        let Number::Value(n) = setting(reading::part(words, w.start, w.end), most(i)) else {
             return Call::Wrong;
         };
         v[i] = n;
-        let more = behind_word(s);
-        left = more.len();
+        beyond = beyond | (n == BEYOND);
+        at = w.end;
         i += 1;
     }
-    if 0 < left {
+    let next = reading::word(words, at);
+    if next.start < words.len() {
         return Call::Wrong;
+    }
+    if beyond {
+        return Call::Open(out_of_range());
     }
     Call::Open(Settings {
         receive: low16(v[0]),
@@ -668,13 +592,36 @@ fn read_settings(words: &[u8]) -> Call {
         block: low8(v[2]),
         t1: low8(v[3]),
         t3: low8(v[4]),
-        reply: low16(v[5]),
-        requests: low8(v[6]),
-        repeats: low8(v[7]),
-        pause: low16(v[8]),
-        interval: low16(v[9]),
-        tests: low8(v[10]),
+        t_e: low16(v[5]),
+        mntc: low8(v[6]),
+        mntb: low8(v[7]),
+        t_wait: low16(v[8]),
+        t_ct: low16(v[9]),
+        mnct: low8(v[10]),
     })
+}
+
+// A number of a setting, at most most, or BEYOND.
+fn setting(word: &[u8], most: u64) -> Number {
+    match reading::decimal(word) {
+        Number::Value(n) => Number::Value(at_most(n, most)),
+        Number::TooLarge => Number::Value(BEYOND),
+        Number::Bad => Number::Bad,
+    }
+}
+
+fn at_most(n: u64, most: u64) -> u64 {
+    if most < n {
+        return BEYOND;
+    }
+    n
+}
+
+// Settings that every record refuses: a receive ID has eleven bits.
+fn out_of_range() -> Settings {
+    let mut settings = Settings::DEFAULT;
+    settings.receive = 65535;
+    settings
 }
 
 // The largest number that the setting at i is typed with.
@@ -683,15 +630,6 @@ fn most(i: usize) -> u64 {
         0 | 5 | 8 | 9 => 65535,
         _ => 255,
     }
-}
-
-// The last n characters.
-fn last_of(s: &[u8], n: usize) -> &[u8] {
-    if s.len() < n {
-        return s;
-    }
-    let from = s.len() - n;
-    &s[from..]
 }
 
 fn low8(n: u64) -> u8 {

@@ -28,7 +28,7 @@ use Rattle.channel.specs.declared.Answer.{Answer}
 use Rattle.channel.specs.declared.Answer.the-variants.{Good, UsedUp}
 use Rattle.channel.specs.Numbers.{closes}
 use Rattle.arrival.specs.Arrived.{ackAnswer}
-use Rattle.delivery.specs.System.{Try, History, Fate, accepting, withMessages, withTries, handing, told, losing, lent, shownBy}
+use Rattle.delivery.specs.System.{Try, History, Fate, accepting, withMessages, withTries, handing, answerNoted, losing, lent, shownBy}
 use Rattle.delivery.specs.System.Side.{near}
 use Rattle.delivery.specs.System.Fate.{goes, stays, lost}
 
@@ -153,7 +153,7 @@ withLosses h l = withTries h (h .frames) (h .turns) (h .ackTry) l
 
 -- and with other messages handed out
 abbrev pub withHandedOut : History → List (List ℕ) → History
-withHandedOut h l = withMessages h (h .accepted) l (h .done) (h .lost)
+withHandedOut h l = withMessages h (h .accepted) l (h .done) (h .givenUp)
 
 -- ---- at the sending end
 
@@ -168,7 +168,7 @@ offeredTo d m o = withSending d (o .sender) (d .live) (offerNoted (o .note) (d .
 
 -- what an Ack leaves: done and 8 are noted, 8 closes
 abbrev pub heardTo : Direction → Heard → Direction
-heardTo d g = withSending d (g .sender) (not (closes (ackAnswer (g .note)))) (told near (d .history) (ackAnswer (g .note)))
+heardTo d g = withSending d (g .sender) (not (closes (ackAnswer (g .note)))) (answerNoted near (d .history) (ackAnswer (g .note)))
 
 -- the answer to passing time
 abbrev pub passAnswer : Passing → Answer
@@ -177,7 +177,7 @@ passAnswer Again = Good
 passAnswer RanOut = UsedUp
 
 abbrev pub passedTo : Direction → Passed → Direction
-passedTo d g = withSending d (g .sender) (not (closes (passAnswer (g .note)))) (told near (d .history) (passAnswer (g .note)))
+passedTo d g = withSending d (g .sender) (not (closes (passAnswer (g .note)))) (answerNoted near (d .history) (passAnswer (g .note)))
 
 -- the try of the next frame
 abbrev pub tryNow : Direction → Try

@@ -48,9 +48,9 @@ pub record Delivers (limit : ℕ) (d : Direction) : Type 0 where
   pub done : (i : ℕ) → i < d .history .done
       → (i < length (d .history .handedOut)) ⊎ ((length (d .history .handedOut) ≡ i) × Ready d (getD (d .history .accepted) i []))
   -- 8 was answered: the sending end is closed, with one message accepted that is not done
-  pub lost : d .history .lost ≡ true → (d .live ≡ false) × (length (d .history .accepted) ≡ d .history .done + 1)
+  pub givenUp : d .history .givenUp ≡ true → (d .live ≡ false) × (length (d .history .accepted) ≡ d .history .done + 1)
   -- a message that is not done when the sending end is closed, by 8 or otherwise, is handed out whole or no part of it ever is
-  pub givenUp : d .live ≡ false → length (d .history .accepted) ≡ d .history .done + 1 → (ms : List Move)
+  pub wholeOrNever : d .live ≡ false → length (d .history .accepted) ≡ d .history .done + 1 → (ms : List Move)
       → (length (moved limit d ms .history .handedOut) ≤ d .history .done) ⊎ (moved limit d ms .history .handedOut ≡ d .history .accepted)
 
 whole-or-never : (limit room : ℕ) → limit < 65536 → (d : Direction) → Kept limit room d → Within room (d .history .accepted)
@@ -71,8 +71,8 @@ delivers limit room small d k w =
     record {
       inOrder = v .inOrder;
       done = λ i h. ready (done-complete v i h);
-      lost = λ l. let c = v .lost l in (c .0, in-sending v (c .1) .counted);
-      givenUp = whole-or-never limit room small d k w;
+      givenUp = λ l. let c = v .givenUp l in (c .0, in-sending v (c .1) .counted);
+      wholeOrNever = whole-or-never limit room small d k w;
     }
   where
     ready : {i : ℕ}

@@ -18,7 +18,7 @@ use Rattle.delivery.specs.Claim.{noHistory}
 abbrev pub parameters : Parameters
 parameters =
     record {
-      terms = record { block = 4; t1 = 1000; t3 = 50; repeats = 1; pause = 1000 };
+      terms = record { block = 4; t1 = 1000; t3 = 50; repeats = 1; «t_wait» = 1000 };
       interval = 10000;
       allowed = 5;
       own = record { block = 4; t1 = 0x8A; t3 = 0x32 };

@@ -11,16 +11,16 @@ use Rattle.laws.proofs.Cases.{by}
 use Rattle.telegram.specs.Cutting.{framesOf}
 use Rattle.sender.specs.Sending.{frameDue}
 use Rattle.sender.specs.declared.Terms.{Terms}
+use Rattle.sender.proofs.Frames.{frameDue-due}
 use Rattle.delivery.specs.System.{lent}
 use Rattle.delivery.specs.Claim.{FewLosses, framesFor, AllDone}
 use Rattle.delivery.proofs.Core.{Direction, Move, move, moved}
 use Rattle.delivery.proofs.Core.Move.{offer, hear, pass, hand, receive, taken, acknowledge, closeSending, closeReceiving, rest}
-use Rattle.delivery.proofs.SendingKeeps.{due-frame}
 use Rattle.delivery.proofs.Moves.{moved-held}
 use Rattle.delivery.proofs.Count.{few-more}
 use Rattle.delivery.proofs.Tries.{PaceOf, Stage, Tried}
 use Rattle.delivery.proofs.Tries.Pace.{sending, awaiting}
-use Rattle.delivery.proofs.Tries.Stage.{quiet, onItsWay, answered}
+use Rattle.delivery.proofs.Tries.Stage.{vacant, onItsWay, answered}
 use Rattle.delivery.proofs.TriesSending.{offer-tried, pass-tried, hand-tried}
 use Rattle.delivery.proofs.TriesHearing.{hear-tried}
 use Rattle.delivery.proofs.TriesReceiving.{TakenBefore, receive-tried, take-tried, acknowledge-tried}
@@ -93,7 +93,7 @@ pub all-done : {terms : Terms} {d : Direction} → Tried terms d → Still d →
 all-done {terms} {d} v r = go (v .stage)
   where
     go : Stage d → AllDone (terms .repeats) (d .history)
-    go (quiet t q) =
+    go (vacant t q) =
         record {
           done = sym (q .nothing .counted);
           bound = λ i h.
@@ -109,6 +109,6 @@ all-done {terms} {d} v r = go (v .stage)
             let n = p .next′ in
             let more : d .sender .next < framesOf (d .sender .length) = omega arith in
             r .nothing
-            (due-frame (d .sender) (b .current .some) (r .wait) (v .steady .hold′) (r .gap) more)
+            (frameDue-due (d .sender) (record { sending = b .current .some; waited = r .wait; free = v .steady .hold′; apart = r .gap; more = more }))
             (ap (λ n. length (getD (d .history .accepted) n [])) (omega (arith, b .current .counted)) ∙ sym (b .current .same))
         pace (awaiting p h) = omega (arith, p .wait′, r .wait)

@@ -81,7 +81,7 @@ fresh-keeps limit s f =
             complete = inl (record { none = ap (λ (r : Receiver). r .complete .length) got; all = ap length out ∙ sym done });
           });
       inOrder = out ∙ sym (ap (λ (l : List (List ℕ)). take (length l) (s .history .accepted)) out);
-      lost = λ e. absurd (false≢true (sym (ap (λ (h : History). h .lost) none) ∙ e));
+      givenUp = λ e. absurd (false≢true (sym (ap (λ (h : History). h .givenUp) none) ∙ e));
     }
 
 -- ---- along a list of calls
@@ -126,7 +126,7 @@ module _ (limit : ℕ) (s : System) (sides : Sides s) (d : Delivers limit (direc
       record {
         inOrder = d .inOrder;
         done = λ i h. shown (d .done i h);
-        givenUp = λ l. let c = d .lost l in (c .1, whole-or-never (c .0) (c .1));
+        givenUp = λ l. let c = d .givenUp l in (c .1, whole-or-never (c .0) (c .1));
         open′ = sides .open′;
       }
     where
@@ -141,7 +141,7 @@ module _ (limit : ℕ) (s : System) (sides : Sides s) (d : Delivers limit (direc
       whole-or-never : s .near .live ≡ false → length (s .history .accepted) ≡ s .history .done + 1 → WholeOrNever limit s
       whole-or-never shut one cs a =
           subst (λ (x : Direction). (length (x .history .handedOut) ≤ s .history .done) ⊎ (x .history .handedOut ≡ s .history .accepted))
-          (sym (run-moves limit cs s sides a .moves)) (d .givenUp shut one (map moveOf cs))
+          (sym (run-moves limit cs s sides a .moves)) (d .wholeOrNever shut one (map moveOf cs))
 
 -- for every limit that two length bytes can tell, every two fresh ends and every list of calls
 pub first-half : (limit : ℕ) → limit < 65536 → (s : System) → Fresh s → (cs : List Call)

@@ -169,7 +169,7 @@ pub record Invariant (limit room start used block : ℕ) (places : List ℕ) (d 
   pub content : Content used (d .history) (d .receiver) (d .buffer)
   pub inOrder : d .history .handedOut ≡ take (length (d .history .handedOut)) (d .history .accepted)
   -- 8 was answered: the sending end is closed, and a message is in sending
-  pub lost : d .history .lost ≡ true → (d .live ≡ false) × (1 ≤ d .sender .length)
+  pub givenUp : d .history .givenUp ≡ true → (d .live ≡ false) × (1 ≤ d .sender .length)
 
 -- for some ghosts
 abbrev pub Kept : (limit room : ℕ) (d : Direction) → Type 0

@@ -3,10 +3,10 @@ pub mod Core
 pub mod Invariant
 pub mod Links
 pub mod SendingKeeps
-pub mod Bytes
 pub mod ReceivingKeeps
 pub mod Moves
 pub mod Delivers
+pub mod Sides
 pub mod Steps
 pub mod First
 pub mod Count

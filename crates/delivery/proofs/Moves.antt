@@ -51,7 +51,7 @@ module _ {limit room start used block : ℕ} {d : Direction} where
         backward = backward;
         content = v .content;
         inOrder = v .inOrder;
-        lost = v .lost;
+        givenUp = v .givenUp;
       }
 
   -- an end closed or not: only 8 has to do with that
@@ -68,7 +68,7 @@ module _ {limit room start used block : ℕ} {d : Direction} where
         backward = v .backward;
         content = v .content;
         inOrder = v .inOrder;
-        lost = λ w. (h (v .lost w .0), v .lost w .1);
+        givenUp = λ w. (h (v .givenUp w .0), v .givenUp w .1);
       }
 
   -- the first Ack is gone

@@ -164,8 +164,8 @@ pub example :
 unfolding end always along noTest empty inTime noneWaits takenFirst few
 example = (
   record {
-    near = record { sender = refl; receiver = refl; tests = refl; accept = refl; t1 = omega arith; pause = omega arith; live = refl };
-    far = record { sender = refl; receiver = refl; tests = refl; accept = refl; t1 = omega arith; pause = omega arith; live = refl };
+    near = record { sender = refl; receiver = refl; tests = refl; accept = refl; t1 = omega arith; «t_wait» = omega arith; live = refl };
+    far = record { sender = refl; receiver = refl; tests = refl; accept = refl; t1 = omega arith; «t_wait» = omega arith; live = refl };
     agreed = refl;
     least = omega arith;
     most = omega arith;

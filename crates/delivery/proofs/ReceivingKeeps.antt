@@ -1,34 +1,40 @@
 -- What the moves at the receiving end keep: a data frame received, a message taken, the due Ack handed over.
-use Prim.Native.Nat.{ℕ, _+_, _-_, _*_, min, max, _%_, _≤_, _<_}
+use Prim.Native.Nat.{ℕ, _+_, _-_, _*_, max, _%_, _≤_, _<_}
 use native.Mathlib.Numerals.{add-one}
 use native.Mathlib.Omega.{arith}
-use mathlib.Core.Bool.{Bool, true, false, not, _&&_, true≢false}
+use mathlib.Core.Bool.{Bool, true, false, true≢false}
 use mathlib.Core.List.{List, [], _∷_, _++_, append-nil}
 use mathlib.Core.Logic.{_⊎_, inl, inr}
 use mathlib.Core.Path.{_≡_, refl, sym, ap, ap₂, subst, _∙_}
-use lib.Dec.{ltb, eqb}
-use lib.ListN.{length, take, drop, getD, length-append, length-take, length-drop}
-use lib.Seq.{take-suc, take-length}
-use borrow.Author.Tests.{ltb-true, ltb-false, eqb-true, eqb-false, eq-eqb, ne-eqb, not-true, not-false}
-use Rattle.laws.specs.If.{if_then_else_}
-use Rattle.laws.proofs.Cases.{both, by, by-lt, by-eq}
-use Rattle.delivery.proofs.Mod16.{same-shown, on-shown}
-use Rattle.telegram.specs.Cutting.{declaredOf, streamOf, framesOf}
+use lib.Dec.{ltb}
+use lib.ListN.{length, take, drop, getD, length-append, take-append-drop}
+use lib.Seq.{take-suc}
+use borrow.Author.Tests.{ltb-true, ltb-false}
+use Rattle.laws.proofs.Cases.{by, either}
+use Rattle.delivery.proofs.Mod16.{same-shown}
+use Rattle.telegram.specs.Cutting.{framesOf}
+use Rattle.telegram.specs.declared.kinds.Telegram.the-variants.{Data}
 use Rattle.sender.specs.declared.Sender.{Sender}
-use Rattle.receiver.specs.Receiving.{none, ackAfter, settled, kept, numbered, used as usedBy, completed, filled, onFirst, onLater, onData, pasted, copied, buffered, took, shown}
+use Rattle.receiver.specs.Receiving.{none, ackAfter, kept, onData, isUsed, buffered, took, shown}
 use Rattle.receiver.specs.declared.Message.{Message}
 use Rattle.receiver.specs.declared.Standing.{Standing}
 use Rattle.receiver.specs.declared.AckDue.{AckDue}
 use Rattle.receiver.specs.declared.Receiver.{Receiver}
+use Rattle.receiver.specs.declared.Receipt.{Receipt}
+use Rattle.receiver.specs.declared.Receipt.the-variants.{NoData}
 use Rattle.receiver.specs.declared.Received.{Received}
 use Rattle.receiver.specs.declared.Took.{Took}
+use Rattle.receiver.proofs.Outcomes.{Outcome, out-of-place, untaken, thrown-away, in-order, outcome, TakeOutcome, none-complete, short-buffer, shows, take-outcome}
+use Rattle.receiver.proofs.Laws.{kept-is, outcome-ack, received-data, buffered-unused, buffered-length}
+use Rattle.reading.specs.Reading.{Reading, after}
+use Rattle.reading.proofs.Frame.{Behind, Reads, within, whole, behind-front, reads-used, reads-expected, arrives-data, reads-frame}
+use Rattle.reading.proofs.Whole.{read-shown}
 use Rattle.delivery.specs.System.{Try, handing}
 use Rattle.delivery.proofs.Core.{DataFrame, Direction, withReceiving, withHandedOut, askedBy, receivedTo, received, tookTo, withAck, move}
 use Rattle.delivery.proofs.Core.Move.{taken}
-use Rattle.delivery.proofs.Invariant.{current, Half, Sending, Carries, Placed, Forward, Backward, Inside, Part, Out, Waits, Complete, Content, Holds, Invariant, Kept}
+use Rattle.delivery.proofs.Invariant.{current, Half, Sending, Carries, Placed, Forward, Backward, Out, Waits, Complete, Content, Holds, Invariant, Kept}
 use Rattle.delivery.proofs.Links.{forward-bounds, backward-bounds, backward-due, backward-hand}
 use Rattle.delivery.proofs.SendingKeeps.{in-sending}
-use Rattle.delivery.proofs.Bytes.{pasted-length, pasted-front, piece-length, piece-later, piece-first, piece-declares, last-fills, more-fills, begun-below}
 
 -- ---- what the receiver holds
 
@@ -55,20 +61,6 @@ module _ {used done waits : ℕ} {m buffer : List ℕ} {accepted handedOut : Lis
   not-discarding (inl c) = c .between .discarding
   not-discarding (inr (inl c)) = c .inside .discarding
   not-discarding (inr (inr c)) = c .between .discarding
-
-  -- a message of which frames are left to use is at its beginning where none is begun
-  at-begin : Holds used done m accepted handedOut at waits buffer
-      → used < framesOf (length m) → 1 ≤ length m → at .begun .length ≡ 0 → waits ≡ 0 → (used ≡ 0) × Out done handedOut waits
-  at-begin (inl c) h k e z = (c .none, all-out (c .complete) z)
-  at-begin (inr (inl c)) h k e z = absurd (omega (arith, c .inside .begun))
-  at-begin (inr (inr c)) h k e z = absurd (omega (arith, c .all))
-
-  -- and inside where one is begun
-  at-part : Holds used done m accepted handedOut at waits buffer
-      → (at .begun .length ≡ 0 → ⊥) → Part used done m handedOut at waits buffer
-  at-part (inl c) h = absurd (h (c .between .begun))
-  at-part (inr (inl c)) h = c
-  at-part (inr (inr c)) h = absurd (h (c .between .begun))
 
   -- the message that waits is the next one accepted
   next-waits : {limit size block : ℕ} {s : Sender} → 1 ≤ waits
@@ -98,10 +90,10 @@ module _ {used done waits : ℕ} {m buffer : List ℕ} {accepted handedOut : Lis
           → (i < length handedOut) ⊎ ((length handedOut ≡ i) × (1 ≤ waits) × (waits ≤ length buffer) × (take waits buffer ≡ getD accepted i []))
       go (inl o) = inl (omega (arith, o .all))
       go (inr w) =
-          by-lt (λ (_ : ℕ). (i < length handedOut) ⊎ ((length handedOut ≡ i) × (1 ≤ waits) × (waits ≤ length buffer) × (take waits buffer ≡ getD accepted i [])))
-          i (length handedOut) {x = 0} {y = 0}
-          (λ b. inl b)
-          λ b. let e : length handedOut ≡ i = omega (arith, w .all) in
+          either (ltb i (length handedOut))
+          (λ b. inl (ltb-true _ _ b))
+          λ b. let past = ltb-false i (length handedOut) b in
+          let e : length handedOut ≡ i = omega (arith, w .all) in
           inr (e, w .some, w .fits, w .front ∙ ap (λ (n : ℕ). getD accepted n []) e)
   done-of h (inr (inl c)) = inl (omega (arith, c .complete .all))
   done-of {i} h (inr (inr c)) = inl (go (c .complete))
@@ -110,15 +102,81 @@ module _ {used done waits : ℕ} {m buffer : List ℕ} {accepted handedOut : Lis
       go (inl o) = omega (arith, o .all)
       go (inr w) = omega (arith, w .all)
 
--- ---- the buffer after a first and after a later frame
+-- ---- the receiver as a reader of the message in sending
 
-copied-first : (r : Receiver) (p b : List ℕ) → r .at .begun .length ≡ 0 → copied r p b ≡ pasted b 0 (drop 2 p)
-unfolding copied
-copied-first r p b e = ap (λ (t : Bool). if t then pasted b 0 (drop 2 p) else pasted b (r .at .fill) p) (eq-eqb _ _ e)
+-- the receiver and its buffer, before a frame
+abbrev readingOf : Direction → Reading
+readingOf d = record { receiver = d .receiver; buffer = d .buffer; note = NoData }
 
-copied-later : (r : Receiver) (p b : List ℕ) → (r .at .begun .length ≡ 0 → ⊥) → copied r p b ≡ pasted b (r .at .fill) p
-unfolding copied
-copied-later r p b e = ap (λ (t : Bool). if t then pasted b 0 (drop 2 p) else pasted b (r .at .fill) p) (ne-eqb _ _ e)
+message : ℕ → Message
+message n = record { length = n }
+
+module _ {start used done : ℕ} {m : List ℕ} {accepted handedOut : List (List ℕ)} where
+  -- with frames of the message left to use and none waiting, it stands behind those used, and all complete before are handed out
+  holds-behind : (d : Direction) → Holds used done m accepted handedOut (d .receiver .at) (d .receiver .complete .length) (d .buffer)
+      → used < framesOf (length m) → d .receiver .complete .length ≡ 0 → d .receiver .at .expected ≡ (start + used) % 16
+      → Behind m start (d .buffer) used (readingOf d) × (length handedOut ≡ done)
+  unfolding message
+  holds-behind d (inl c) more none′ e = (
+    record {
+      expected = e;
+      discarding = c .between .discarding;
+      complete = ap message none′;
+      starts = λ _. ap message (c .between .begun);
+      begun = λ z. absurd (omega (arith, c .none));
+      fill = λ z. absurd (omega (arith, c .none));
+      buffer = rw (c .none);
+    },
+    all-out (c .complete) none′ .all,
+  )
+  holds-behind d (inr (inl c)) more none′ e = (
+    record {
+      expected = e;
+      discarding = c .inside .discarding;
+      complete = ap message none′;
+      starts = λ z. absurd (omega (arith, c .inside .least));
+      begun = λ _. ap message (c .inside .begun);
+      fill = λ _. c .inside .fill;
+      buffer = sym (take-append-drop (7 * used - 2) (d .buffer)) ∙ ap (λ (x : List ℕ). x ++ drop (7 * used - 2) (d .buffer)) (c .inside .front);
+    },
+    c .complete .all,
+  )
+  holds-behind d (inr (inr c)) more none′ e = absurd (omega (arith, c .all))
+
+  -- what it holds when it has read the next one
+  reads-holds : {b : List ℕ} {h : Reading} → Reads m start b used h → length handedOut ≡ done
+      → length accepted ≡ done + 1 → m ≡ getD accepted done [] → 1 ≤ length m
+      → Holds (used + 1) done m accepted handedOut (h .receiver .at) (h .receiver .complete .length) (h .buffer)
+  reads-holds (within u n s) out counted same some =
+      inr (inl (record {
+        inside = record {
+          begun = ap (λ (x : Message). x .length) (s .begun (omega arith));
+          discarding = s .discarding;
+          fill = s .fill (omega arith);
+          least = omega arith;
+          most = u;
+          front = behind-front (used + 1) u s;
+        };
+        complete = record { none = ap (λ (x : Message). x .length) (s .complete); all = out };
+      }))
+  reads-holds {b} {h} (whole e t) out counted same some =
+      let w = ap (λ (x : Message). x .length) (t .complete) in
+      let l = simp length-append at (ap length (t .buffer)) in
+      inr (inr (record {
+        counted = counted;
+        all = e;
+        between = record { begun = ap (λ (x : Message). x .length) (t .begun); discarding = t .discarding };
+        complete =
+            inr
+            (record {
+              some = omega arith;
+              fits = omega arith;
+              all = omega arith;
+              front = read-shown m start b h t ∙ same ∙ ap (λ (n : ℕ). getD accepted n []) (sym out);
+            });
+      }))
+
+-- ---- the sending half behind a frame
 
 -- the highest index lies at most 15 ahead of what is expected
 high-close : {limit done size used block : ℕ} {accepted : List (List ℕ)} {m : List ℕ} {s : Sender} → size ≤ 15
@@ -132,21 +190,21 @@ high-busy : {limit done size used block : ℕ} {accepted : List (List ℕ)} {m :
 high-busy (inl i) h = absurd (omega arith)
 high-busy (inr b) h = omega arith
 
--- ---- what a data frame with the index i leaves
+-- ---- a data frame arrives
 
--- it was not used: it had another index than the expected one, or a complete message waited
-pub record Unused (limit room start used block : ℕ) (places : List ℕ) (d : Direction) (f : DataFrame) (i : ℕ) (t : Direction) : Type 0 where
-  pub keeps : Invariant limit room start used block places t
-  pub waits : i ≡ start + used → 1 ≤ d .receiver .complete .length
-  pub ack : t .receiver .ack ≡ ackAfter (d .receiver) (f .asks) (t .receiver .at .expected)
+-- no frame changes the length of the buffer
+pub received-length : (limit : ℕ) (d : Direction) (f : DataFrame) → length (received limit d f .buffer) ≡ length (d .buffer)
+received-length limit d f =
+    rw received-data at (buffered-length limit (d .receiver) (Data (f .asks) (f .last) (f .number)) (f .bytes) (d .buffer))
 
--- it was used
-pub record Used (limit room start used block : ℕ) (places : List ℕ) (d : Direction) (f : DataFrame) (i : ℕ) (t : Direction) : Type 0 where
-  pub keeps : Invariant limit room start (used + 1) block places t
-  pub index : i ≡ start + used
-  pub more : used < d .sender .high
-  pub none′ : d .receiver .complete .length ≡ 0
-  pub ack : t .receiver .ack ≡ ackAfter (d .receiver) (f .asks) (t .receiver .at .expected)
+-- what a frame leaves that is not used
+abbrev pub unusedBy : Direction → DataFrame → Direction
+unusedBy d f = withReceiving d (kept (d .receiver) (f .asks)) (d .buffer) (askedBy (d .history) (f .asks) (f .try))
+
+pub unused-received : (d : Direction) (f : DataFrame) (note : Receipt) → isUsed note ≡ false
+    → receivedTo d f (record { note = note; receiver = kept (d .receiver) (f .asks) }) ≡ unusedBy d f
+unused-received d f note u =
+    ap (λ (b : List ℕ). withReceiving d (kept (d .receiver) (f .asks)) b (askedBy (d .history) (f .asks) (f .try))) (buffered-unused (d .receiver) note (f .bytes) (d .buffer) u)
 
 module _ {limit room start used block : ℕ} {places : List ℕ} {d : Direction} (v : Invariant limit room start used block places d) where
   -- the Ack due after a frame, and those in the link
@@ -168,9 +226,9 @@ module _ {limit room start used block : ℕ} {places : List ℕ} {d : Direction}
   -- a frame that is not used: only an Ack may become due
   pub unused-keeps : (asks : Bool) (t : Try)
       → Invariant limit room start used block places (withReceiving d (kept (d .receiver) asks) (d .buffer) (askedBy (d .history) asks t))
-  unfolding settled
   unused-keeps asks t =
-      record {
+      rw (kept-is (d .receiver) asks)
+      (record {
         fair = v .fair;
         room′ = v .room′;
         sending = v .sending;
@@ -182,19 +240,17 @@ module _ {limit room start used block : ℕ} {places : List ℕ} {d : Direction}
             (due-keeps 0 asks _ (v .expected ∙ ap (λ (n : ℕ). n % 16) (omega arith)) acked-used);
         content = v .content;
         inOrder = v .inOrder;
-        lost = v .lost;
-      }
+        givenUp = v .givenUp;
+      })
 
-  -- a frame that is used leaves a standing, perhaps a complete message, and a buffer
-  pub used-keeps : used < d .sender .high → (asks last : Bool) (t : Try) (at : Standing) (complete : Message) (buffer : List ℕ)
-      → at .expected ≡ (d .receiver .at .expected + 1) % 16 → length buffer ≡ room
-      → Content (used + 1) (d .history) (settled (d .receiver) asks last at complete) buffer
+  -- a frame that is used leaves a receiver and a buffer
+  used-keeps : used < d .sender .high → (asks : Bool) (t : Try) (r : Receiver) (buffer : List ℕ)
+      → r .at .expected ≡ (start + (used + 1)) % 16 → r .ack ≡ ackAfter (d .receiver) asks (r .at .expected) → length buffer ≡ room
+      → Content (used + 1) (d .history) r buffer
       → Forward start (start + d .sender .high) (current (d .history)) (d .terms .block) (start + (used + 1)) places (d .frames)
-      → Invariant limit room start (used + 1) block places (withReceiving d (settled (d .receiver) asks last at complete) buffer (askedBy (d .history) asks t))
-  unfolding settled
-  used-keeps more asks last t at complete buffer e l content forward =
+      → Invariant limit room start (used + 1) block places (withReceiving d r buffer (askedBy (d .history) asks t))
+  used-keeps more asks t r buffer e ack l content forward =
       let b = in-sending v (high-busy (v .sending) more) in
-      let e′ : at .expected ≡ (start + (used + 1)) % 16 = e ∙ on-shown _ _ 1 (v .expected) ∙ ap (λ (n : ℕ). n % 16) (omega arith) in
       record {
         fair = v .fair;
         room′ = l;
@@ -217,209 +273,78 @@ module _ {limit room start used block : ℕ} {places : List ℕ} {d : Direction}
               inside = b .inside;
             });
         oldest = v .oldest;
-        expected = e′;
+        expected = e;
         forward = forward;
-        backward = due-keeps 1 asks (at .expected) e′ acked-used;
+        backward =
+            subst (λ (k : AckDue). Backward (start + d .sender .acked) (start + (used + 1)) k (d .acks)) (sym ack)
+            (due-keeps 1 asks (r .at .expected) e acked-used);
         content = content;
         inOrder = v .inOrder;
-        lost = v .lost;
+        givenUp = v .givenUp;
       }
 
-  -- ---- a frame of the message in sending, in its place
+  module _ (small : limit < 65536) (roomy : length (current (d .history)) ≤ room) (f : DataFrame) where
+    -- what becomes of the frame
+    abbrev answer : Received
+    answer = onData limit (d .receiver) (f .asks) (f .last) (f .number) (f .bytes) (length (d .buffer))
 
-  module _ (more : used < d .sender .high) (roomy : length (current (d .history)) ≤ room) (f : DataFrame)
-      (i : ℕ) (index : i ≡ start + used)
-      (carries : Carries (current (d .history)) (d .terms .block) used f) (out : Out (d .history .done) (d .history .handedOut) (d .receiver .complete .length))
-      (forward : Forward start (start + d .sender .high) (current (d .history)) (d .terms .block) (start + (used + 1)) places (d .frames)) where
-    -- the buffer after it
-    record Pasted : Type 0 where
-      same : length (copied (d .receiver) (f .bytes) (d .buffer)) ≡ length (d .buffer)
-      front : (n : ℕ) → n ≡ min (7 * used + 5) (length (current (d .history)))
-          → take n (copied (d .receiver) (f .bytes) (d .buffer)) ≡ take n (current (d .history))
-
-    -- it brings its message to so many bytes
-    filled-keeps : (m : Message) (fill : ℕ) → m .length ≡ length (current (d .history)) → fill ≡ min (7 * used + 5) (length (current (d .history))) → Pasted
-        → Used limit room start used block places d f i (receivedTo d f (filled (d .receiver) (f .asks) (f .last) m fill (length (d .buffer))))
-    unfolding filled buffered numbered settled
-    filled-keeps m fill e g p =
+    -- the expected frame, with none waiting, is read as the next one of the message in sending
+    expected-reads : used < d .sender .high → f .number ≡ (start + used) % 16 → Carries (current (d .history)) (d .terms .block) used f
+        → Behind (current (d .history)) start (d .buffer) used (readingOf d)
+        → Reads (current (d .history)) start (d .buffer) used (after (readingOf d) (f .bytes) answer)
+    expected-reads more number carries behind =
         let b = in-sending v (high-busy (v .sending) more) in
         let r = v .room′ in
-        let most : used < framesOf (length (current (d .history))) = omega arith in
-        by-lt P (m .length) fill (λ y. absurd (omega arith)) λ _.
-        by P (not (f .last) && eqb fill (m .length))
-        (λ w. let t = both (not (f .last)) (eqb fill (m .length)) w in
-        let z = more-fills _ used fill g most (λ q. absurd (true≢false (sym (carries .last ∙ eq-eqb _ _ q) ∙ not-true _ (t .0)))) in
-        let y = eqb-true fill (m .length) (t .1) in
-        absurd (omega arith)) λ _.
-        by P (f .last && ltb fill (m .length))
-        (λ w. let t = both (f .last) (ltb fill (m .length)) w in
-        let z = last-fills _ used fill g (eqb-true _ _ (sym (carries .last) ∙ t .0)) in
-        let y = ltb-true fill (m .length) (t .1) in
-        absurd (omega arith)) λ _.
-        by-lt P (length (d .buffer)) (m .length) (λ y. absurd (omega arith)) λ _.
-        by P (f .last)
-        (λ w. let z = eqb-true _ _ (sym (carries .last) ∙ w) in
-        record { keeps = whole (last-fills _ used fill g z) z; index = index; more = more; none′ = out .none; ack = refl })
-        λ w. let z = eqb-false _ _ (sym (carries .last) ∙ w) in
-        record { keeps = part (more-fills _ used fill g most z); index = index; more = more; none′ = out .none; ack = refl }
+        subst (Reads (current (d .history)) start (d .buffer) used)
+        (arrives-data limit (readingOf d) (f .asks) _ _ _
+        ∙ λ i. after (readingOf d) (sym (carries .bytes) i)
+        (onData limit (d .receiver) (f .asks) (sym (carries .last) i) (sym number i) (sym (carries .bytes) i) (length (d .buffer))))
+        (reads-frame limit (current (d .history)) start (d .buffer) (b .some) (b .within) (omega arith) (omega arith) used (readingOf d) (f .asks) (omega arith) behind)
+
+    expected-keeps : used < d .sender .high → f .number ≡ (start + used) % 16 → Carries (current (d .history)) (d .terms .block) used f
+        → d .receiver .complete .length ≡ 0
+        → Forward start (start + d .sender .high) (current (d .history)) (d .terms .block) (start + (used + 1)) places (d .frames)
+        → Invariant limit room start (used + 1) block places (received limit d f)
+    expected-keeps more number carries none′ forward =
+        let b = in-sending v (high-busy (v .sending) more) in
+        let c = holds-behind d (v .content) (omega arith) none′ (v .expected) in
+        let q = expected-reads more number carries (c .0) in
+        let a = outcome-ack (outcome limit (d .receiver) (f .asks) (f .last) (f .number) (f .bytes) (length (d .buffer)))
+        (λ e. absurd (true≢false (sym (reads-used q) ∙ ap isUsed e))) in
+        used-keeps more (f .asks) (f .try) (answer .receiver) _ (reads-expected q) (a .ack) (received-length limit d f ∙ v .room′)
+        (reads-holds q (c .1) (b .counted) refl (b .some)) forward
+
+    -- a frame is used exactly where its index is the expected one and none waits; those behind it may be used after it
+    pub data-keeps : (i : ℕ)
+        → Placed start (start + d .sender .high) (current (d .history)) (d .terms .block) (start + used) i f
+        → Forward start (start + d .sender .high) (current (d .history)) (d .terms .block) (max (start + used) (i + 1)) places (d .frames)
+        → Kept limit room (received limit d f)
+    data-keeps i placed behind = go refl (outcome limit (d .receiver) (f .asks) (f .last) (f .number) (f .bytes) (length (d .buffer)))
       where
-        P : Received → Type 0
-        P g′ = Used limit room start used block places d f i (receivedTo d f g′)
+        same-index : f .number ≡ d .receiver .at .expected → i ≡ start + used
+        same-index e =
+            let h = high-close (v .fair .most) (v .sending) in
+            let below = placed .below in
+            let close = placed .close in
+            same-shown i (start + used) (sym (placed .number) ∙ e ∙ v .expected) (omega arith) (omega arith)
 
-        whole : fill ≡ length (current (d .history)) → used + 1 ≡ framesOf (length (current (d .history)))
-            → Invariant limit room start (used + 1) block places
-            (withReceiving d (completed (d .receiver) (f .asks) m) (copied (d .receiver) (f .bytes) (d .buffer)) (askedBy (d .history) (f .asks) (f .try)))
-        whole full all =
-            let b = in-sending v (high-busy (v .sending) more) in
-            let r = v .room′ in
-            let s = p .same in
-            let o = out .all in
-            used-keeps more (f .asks) true (f .try) _ m _ refl (p .same ∙ v .room′)
-            (inr (inr (record {
-              counted = b .counted;
-              all = all;
-              between = record { begun = refl; discarding = refl };
-              complete =
-                  inr
-                  (record {
-                    some = omega arith;
-                    fits = omega arith;
-                    all = omega arith;
-                    front =
-                        p .front (m .length) (omega arith) ∙ ap (λ (n : ℕ). take n (current (d .history))) e ∙ take-length (current (d .history))
-                        ∙ ap (λ (n : ℕ). getD (d .history .accepted) n []) (sym o);
-                  });
-            })))
-            forward
+        expected′ : f .number ≡ d .receiver .at .expected → d .receiver .complete .length ≡ 0 → Kept limit room (received limit d f)
+        expected′ e none′ =
+            let same = same-index e in
+            let below = placed .below in
+            let top = start + d .sender .high in
+            let forward = forward-bounds start top top (current (d .history)) (d .terms .block) (max (start + used) (i + 1)) (start + (used + 1)) (omega arith) (omega arith)
+            places (d .frames) behind in
+            (start, used + 1, block, places, expected-keeps (omega arith) (e ∙ v .expected) (placed .carries used same) none′ forward)
 
-        part : (fill ≡ 7 * (used + 1) - 2) × (fill < length (current (d .history))) × (used + 1 < framesOf (length (current (d .history))))
-            → Invariant limit room start (used + 1) block places
-            (withReceiving d (usedBy (d .receiver) (f .asks) m fill) (copied (d .receiver) (f .bytes) (d .buffer)) (askedBy (d .history) (f .asks) (f .try)))
-        part z =
-            used-keeps more (f .asks) false (f .try) _ (d .receiver .complete) _ refl (p .same ∙ v .room′)
-            (inr (inl (record {
-              inside = record { begun = e; discarding = refl; fill = z .0; least = omega arith; most = z .2; front = p .front _ (sym (z .0) ∙ g) };
-              complete = out;
-            })))
-            forward
+        unused : (note : Receipt) → isUsed note ≡ false → Kept limit room (receivedTo d f (record { note = note; receiver = kept (d .receiver) (f .asks) }))
+        unused note u = rw (unused-received d f note u) (start, used, block, places, unused-keeps (f .asks) (f .try))
 
-    -- a first frame, pasted
-    first-pasted : used ≡ 0 → d .receiver .at .begun .length ≡ 0 → Pasted
-    first-pasted zero begun =
-        let r = v .room′ in
-        let m = current (d .history) in
-        let e = copied-first (d .receiver) (f .bytes) (d .buffer) begun
-        ∙ ap (λ (p : List ℕ). pasted (d .buffer) 0 p) (ap (drop 2) (carries .bytes ∙ ap (λ (n : ℕ). take 7 (drop (7 * n) (streamOf m))) zero) ∙ piece-first m) in
-        record {
-          same = ap length e ∙ pasted-length (d .buffer) 0 (take 5 m) (simp length-take (omega arith));
-          front = λ n g. ap (take n) e ∙ pasted-front (d .buffer) m 0 5 n (omega arith) refl (omega arith);
-        }
-
-    -- a later one
-    later-pasted : Inside (current (d .history)) used (d .receiver .at) (d .buffer) → 1 ≤ length (current (d .history)) → Pasted
-    later-pasted c some =
-        let r = v .room′ in
-        let m = current (d .history) in
-        let below = begun-below (length m) used (c .most) in
-        let least = c .least in
-        let e = copied-later (d .receiver) (f .bytes) (d .buffer) (λ z. absurd (omega (arith, c .begun)))
-        ∙ ap₂ (pasted (d .buffer)) (c .fill) (carries .bytes ∙ piece-later m used (c .least)) in
-        record {
-          same = ap length e ∙ pasted-length (d .buffer) (7 * used - 2) (take 7 (drop (7 * used - 2) m)) (simp (length-take, length-drop) (omega arith));
-          front = λ n g. ap (take n) e ∙ pasted-front (d .buffer) m (7 * used - 2) 7 n (omega arith) (c .front) (omega arith);
-        }
-
-    first-keeps : limit < 65536 → used ≡ 0 → d .receiver .at .begun .length ≡ 0
-        → Used limit room start used block places d f i (receivedTo d f (onFirst limit (d .receiver) (f .asks) (f .last) (f .bytes) (length (d .buffer))))
-    unfolding onFirst
-    first-keeps small zero begun =
-        let m = current (d .history) in
-        let b = in-sending v (high-busy (v .sending) more) in
-        let l = ap length (carries .bytes) ∙ piece-length m used in
-        let e = ap (λ (p : List ℕ). declaredOf (getD p 0 0) (getD p 1 0)) (carries .bytes ∙ ap (λ (n : ℕ). take 7 (drop (7 * n) (streamOf m))) zero)
-        ∙ piece-declares m (omega arith) in
-        by-lt P (length (f .bytes)) 2 (λ y. absurd (omega arith)) λ _.
-        by-eq P (declaredOf (getD (f .bytes) 0 0) (getD (f .bytes) 1 0)) 0 (λ y. absurd (omega arith)) λ _.
-        by-lt P limit (declaredOf (getD (f .bytes) 0 0) (getD (f .bytes) 1 0)) (λ y. absurd (omega arith)) λ _.
-        filled-keeps _ (length (f .bytes) - 2) e (omega arith) (first-pasted zero begun)
-      where
-        P : Received → Type 0
-        P g = Used limit room start used block places d f i (receivedTo d f g)
-
-    later-keeps : Inside (current (d .history)) used (d .receiver .at) (d .buffer)
-        → Used limit room start used block places d f i (receivedTo d f (onLater (d .receiver) (f .asks) (f .last) (f .bytes) (length (d .buffer))))
-    unfolding onLater
-    later-keeps c =
-        let m = current (d .history) in
-        let r = v .room′ in
-        let b = in-sending v (high-busy (v .sending) more) in
-        let l = ap length (carries .bytes) ∙ piece-length m used in
-        let e = c .begun in
-        let g = c .fill in
-        let least = c .least in
-        let below = begun-below (length m) used (c .most) in
-        by-lt (λ (x : Received). Used limit room start used block places d f i (receivedTo d f x)) (length (d .buffer)) (d .receiver .at .begun .length)
-        (λ y. absurd (omega arith)) λ _.
-        filled-keeps (d .receiver .at .begun) (d .receiver .at .fill + length (f .bytes)) e (omega arith) (later-pasted c (b .some))
-
-  -- ---- a data frame arrives; those behind it may be used after it
-
-  -- a frame is used exactly where its index is the expected one and none waits
-  pub data-leaves : limit < 65536 → length (current (d .history)) ≤ room → (f : DataFrame) (i : ℕ)
-      → Placed start (start + d .sender .high) (current (d .history)) (d .terms .block) (start + used) i f
-      → Forward start (start + d .sender .high) (current (d .history)) (d .terms .block) (max (start + used) (i + 1)) places (d .frames)
-      → Used limit room start used block places d f i (received limit d f) ⊎ Unused limit room start used block places d f i (received limit d f)
-  unfolding onData buffered settled
-  data-leaves small roomy f i placed behind =
-      by P (not (eqb (f .number) (d .receiver .at .expected))) (λ e. unused λ same. absurd (eqb-false _ _ (not-true _ e) (elsewhere same))) λ e.
-      by-lt P 0 (d .receiver .complete .length) (λ w. unused λ _. w) λ w.
-      by P (d .receiver .at .discarding) (λ z. absurd (true≢false (sym z ∙ not-discarding (v .content)))) λ _.
-      let same : i ≡ start + used = here (eqb-true _ _ (not-false _ e)) in
-      let below = placed .below in
-      let more : used < d .sender .high = omega arith in
-      let b = in-sending v (high-busy (v .sending) more) in
-      let none′ : d .receiver .complete .length ≡ 0 = omega arith in
-      let top = start + d .sender .high in
-      let forward = forward-bounds start top top (current (d .history)) (d .terms .block) (max (start + used) (i + 1)) (start + (used + 1)) (omega arith) (omega arith)
-      places (d .frames) behind in
-      by-eq P (d .receiver .at .begun .length) 0
-      (λ begun.
-      let c = at-begin (v .content) (omega arith) (b .some) begun none′ in
-      inl (first-keeps more roomy f i same (placed .carries used same) (c .1) forward small (c .0) begun))
-      λ begun.
-      let c = at-part (v .content) begun in
-      inl (later-keeps more roomy f i same (placed .carries used same) (c .complete) forward (c .inside))
-    where
-      P : Received → Type 0
-      P g = Used limit room start used block places d f i (receivedTo d f g) ⊎ Unused limit room start used block places d f i (receivedTo d f g)
-
-      unchanged : Direction
-      unchanged = withReceiving d (kept (d .receiver) (f .asks)) (d .buffer) (askedBy (d .history) (f .asks) (f .try))
-
-      unused : (i ≡ start + used → 1 ≤ d .receiver .complete .length)
-          → Used limit room start used block places d f i unchanged ⊎ Unused limit room start used block places d f i unchanged
-      unused w = inr (record { keeps = unused-keeps (f .asks) (f .try); waits = w; ack = refl })
-
-      elsewhere : i ≡ start + used → f .number ≡ d .receiver .at .expected
-      elsewhere same = placed .number ∙ ap (λ (n : ℕ). n % 16) same ∙ sym (v .expected)
-
-      here : f .number ≡ d .receiver .at .expected → i ≡ start + used
-      here e =
-          let h = high-close (v .fair .most) (v .sending) in
-          let below = placed .below in
-          let close = placed .close in
-          same-shown i (start + used) (sym (placed .number) ∙ e ∙ v .expected) (omega arith) (omega arith)
-
-  pub data-keeps : limit < 65536 → length (current (d .history)) ≤ room → (f : DataFrame) (i : ℕ)
-      → Placed start (start + d .sender .high) (current (d .history)) (d .terms .block) (start + used) i f
-      → Forward start (start + d .sender .high) (current (d .history)) (d .terms .block) (max (start + used) (i + 1)) places (d .frames)
-      → Kept limit room (received limit d f)
-  data-keeps small roomy f i placed behind = go (data-leaves small roomy f i placed behind)
-    where
-      go : Used limit room start used block places d f i (received limit d f) ⊎ Unused limit room start used block places d f i (received limit d f)
-          → Kept limit room (received limit d f)
-      go (inl u) = (start, used + 1, block, places, u .keeps)
-      go (inr u) = (start, used, block, places, u .keeps)
+        go : {x : Received} → answer ≡ x → Outcome limit (d .receiver) (f .asks) (f .last) (f .number) (f .bytes) (length (d .buffer)) x → Kept limit room (received limit d f)
+        go e (out-of-place n) = subst (λ (x : Received). Kept limit room (receivedTo d f x)) (sym e) (unused _ refl)
+        go e (untaken n w) = subst (λ (x : Received). Kept limit room (receivedTo d f x)) (sym e) (unused _ refl)
+        go e (thrown-away n w t) = absurd (true≢false (sym t ∙ not-discarding (v .content)))
+        go e (in-order o j) = expected′ (o .expected) (omega (arith, ltb-false 0 (d .receiver .complete .length) (o .none-waits)))
 
   -- ---- a message is taken
 
@@ -450,7 +375,7 @@ module _ {limit room start used block : ℕ} {places : List ℕ} {d : Direction}
         backward = v .backward;
         content = content-taken (shown (d .receiver) (d .buffer)) some (v .content);
         inOrder = in-order (next-waits some (v .content) (v .sending));
-        lost = v .lost;
+        givenUp = v .givenUp;
       }
     where
       more : List (List ℕ)
@@ -465,14 +390,12 @@ module _ {limit room start used block : ℕ} {places : List ℕ} {d : Direction}
           ∙ ap (λ (n : ℕ). take n (d .history .accepted)) (sym (length-append (d .history .handedOut) _ ∙ add-one _))
 
   pub take-keeps : Kept limit room (tookTo d (took (d .receiver) (length (d .buffer))))
-  unfolding took
-  take-keeps =
-      by P (not (ltb 0 (d .receiver .complete .length))) (λ _. shown-none) λ w.
-      by-lt P (length (d .buffer)) (d .receiver .complete .length) (λ _. shown-none) λ _.
-      (start, used, block, places, taken-keeps (ltb-true _ _ (not-false _ w)))
+  take-keeps = go (take-outcome (d .receiver) (length (d .buffer)))
     where
-      P : Took → Type 0
-      P g = Kept limit room (tookTo d g)
+      go : {x : Took} → TakeOutcome (d .receiver) (length (d .buffer)) x → Kept limit room (tookTo d x)
+      go (none-complete w) = shown-none
+      go (short-buffer w short) = shown-none
+      go (shows w fits) = (start, used, block, places, taken-keeps (ltb-true _ _ w))
 
   -- ---- the due Ack is handed over
 
@@ -488,7 +411,7 @@ module _ {limit room start used block : ℕ} {places : List ℕ} {d : Direction}
         backward = backward-hand (start + d .sender .acked) (start + used) (d .receiver .ack) _ due refl (d .acks) (v .backward);
         content = v .content;
         inOrder = v .inOrder;
-        lost = v .lost;
+        givenUp = v .givenUp;
       }
 
   -- ---- what was reported done
@@ -504,14 +427,13 @@ module _ {limit room start used block : ℕ} {places : List ℕ} {d : Direction}
 module _ (limit : ℕ) (d : Direction) (open′ : d .listens ≡ true)
     (some : 1 ≤ d .receiver .complete .length) (fits : d .receiver .complete .length ≤ length (d .buffer)) where
   pub take-shows : move limit d taken .history .handedOut ≡ d .history .handedOut ++ (take (d .receiver .complete .length) (d .buffer) ∷ [])
-  unfolding took
   take-shows =
-      by (λ (x : Direction). x .history .handedOut ≡ shows) (d .listens)
-      (λ _. by (λ (g : Took). tookTo d g .history .handedOut ≡ shows) (not (ltb 0 (d .receiver .complete .length)))
-      (λ w. absurd (omega (arith, ltb-false 0 (d .receiver .complete .length) (not-true _ w))))
-      λ _. by-lt (λ (g : Took). tookTo d g .history .handedOut ≡ shows) (length (d .buffer)) (d .receiver .complete .length)
-      (λ y. absurd (omega arith)) λ _. refl)
-      λ e. absurd (true≢false (sym open′ ∙ e))
+      by (λ (x : Direction). x .history .handedOut ≡ more) (d .listens) (λ _. go (take-outcome (d .receiver) (length (d .buffer)))) λ e. absurd (true≢false (sym open′ ∙ e))
     where
-      shows : List (List ℕ)
-      shows = d .history .handedOut ++ (take (d .receiver .complete .length) (d .buffer) ∷ [])
+      more : List (List ℕ)
+      more = d .history .handedOut ++ (take (d .receiver .complete .length) (d .buffer) ∷ [])
+
+      go : {x : Took} → TakeOutcome (d .receiver) (length (d .buffer)) x → tookTo d x .history .handedOut ≡ more
+      go (none-complete w) = absurd (omega (arith, ltb-false 0 (d .receiver .complete .length) w))
+      go (short-buffer w short) = absurd (omega arith)
+      go (shows w fits′) = refl

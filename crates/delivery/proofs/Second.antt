@@ -4,24 +4,26 @@ use native.Mathlib.Omega.{arith}
 use mathlib.Core.Bool.{true, false, true≢false, false≢true}
 use mathlib.Core.List.{List, [], _∷_, map}
 use mathlib.Core.Path.{_≡_, refl, sym, ap, subst, _∙_}
-use lib.Dec.{eqb}
 use lib.ListN.{length}
-use borrow.Author.Tests.{eqb-false}
-use Rattle.laws.proofs.Cases.{by, by-not}
-use Rattle.sender.specs.Sending.{handed, frameDue}
-use Rattle.sender.specs.declared.Handed.{Handed}
+use Rattle.telegram.specs.declared.payload.Payload.{Payload}
+use Rattle.sender.specs.Sending.{frameDue}
+use Rattle.sender.specs.declared.Sender.{Sender}
+use Rattle.sender.specs.declared.Handing.the-variants.{Frame}
+use Rattle.sender.proofs.Frames.{frameDue-shows, handed-frame}
 use Rattle.channel.specs.declared.Channel.{Channel}
 use Rattle.channel.specs.declared.Due.{Due}
-use Rattle.channel.specs.Opened.{testDue, handAccept, handTest, handAck, handBy, handData, due as dueOf}
+use Rattle.channel.specs.Opened.{due as dueOf}
+use Rattle.channel.proofs.Handing.{DueOutcome, due-outcome}
+use Rattle.channel.proofs.Handing.DueOutcome.{accept-goes, test-goes, ack-goes, frame-goes}
 use Rattle.delivery.specs.System.{End, Flying, System, Call, isData, step, run}
 use Rattle.delivery.specs.System.Side.{near, far}
-use Rattle.delivery.specs.System.Fate.{goes, stays, lost as loses}
+use Rattle.delivery.specs.System.Fate.{goes, stays, lost}
 use Rattle.delivery.specs.System.Call.{send, take as takes, time, due, arrive}
 use Rattle.delivery.specs.Claim.{Always, Along, Fresh, NoTest, InTime, NoneWaits, TakenFirst, AtRest, FewLosses, framesFor, AllDone}
-use Rattle.delivery.proofs.Tries.{Left, Each, Says, Tried}
-use Rattle.delivery.proofs.Tries.Left.{none}
+use Rattle.delivery.proofs.Tries.{Leftover, Each, Says, Tried}
+use Rattle.delivery.proofs.Tries.Leftover.{none}
 use Rattle.delivery.proofs.Tries.Each.{none as noAcks}
-use Rattle.delivery.proofs.Tries.Stage.{quiet}
+use Rattle.delivery.proofs.Tries.Stage.{vacant}
 use Rattle.delivery.proofs.TriesReceiving.{Clear}
 use Rattle.delivery.proofs.Finishes.{Calm, Calms, moved-tried, all-done}
 use Rattle.delivery.proofs.Steps.{dataOf, acksOf, directionOf, moveOf, Every, IsData, Sides, step-moves}
@@ -48,7 +50,7 @@ fresh-tried s f =
       room = omega (arith, ap (λ x. x .at .begun .length) got);
       bounded = record { before = λ i h. absurd (omega (arith, done)); after = λ i _. frames i };
       stage =
-          quiet (s .history .ackTry)
+          vacant (s .history .ackTry)
           (record {
             nothing =
                 record {
@@ -59,7 +61,7 @@ fresh-tried s f =
                   small = omega (arith, expected);
                   frames′ = frames (s .history .done);
                 };
-            link′ = subst (λ l. Left (s .far .channel .receiver .at .expected) (s .history .ackTry) (dataOf l)) (sym (f .forward)) none;
+            link′ = subst (λ l. Leftover (s .far .channel .receiver .at .expected) (s .history .ackTry) (dataOf l)) (sym (f .forward)) none;
             acks′ = subst (λ l. Each (Says (s .far .channel .receiver .at .expected)) (acksOf l)) (sym (f .backward)) noAcks;
             due = λ e. absurd (false≢true (sym (ap (λ x. x .ack .due) got) ∙ e));
           });
@@ -84,7 +86,7 @@ call-calm s (due far) w i t = tt
 call-calm s (arrive near fate) w i t = tt
 call-calm s (arrive far goes) w i t = clear-link (s .far) (s .forward) (w .forward) t
 call-calm s (arrive far stays) w i t = clear-link (s .far) (s .forward) (w .forward) t
-call-calm s (arrive far loses) w i t = tt
+call-calm s (arrive far lost) w i t = tt
 
 run-calms : (limit : ℕ) (cs : List Call) (s : System) → Sides s → Always limit NoTest s cs → Along limit InTime s cs → Along limit TakenFirst s cs
     → Calms limit (directionOf s) (map moveOf cs)
@@ -113,20 +115,13 @@ module _ (limit : ℕ) (s : System) (f : Fresh s) (cs : List Call) (a : Always l
 
 -- nothing is handed over, so no frame of the message lent is due
 nothing-due : (c : Channel) (m : List ℕ) → dueOf c m .given ≡ false → frameDue (c .sender) ≡ true → length m ≡ c .sender .length → ⊥
-unfolding dueOf handAccept handTest handAck handData handed
-nothing-due c m g due′ same =
-    by P (c .accept) (λ _. true≢false) (λ _.
-    by P (testDue c) (λ _. true≢false) λ _.
-    by P (c .receiver .ack .due) (λ _. true≢false) λ _.
-    by-not Q (frameDue (c .sender)) (λ f. absurd (true≢false (sym due′ ∙ f))) λ _.
-    by-not Q (eqb (length m) (c .sender .length)) (λ n. absurd (eqb-false _ _ n same)) λ _. true≢false)
-    g
+nothing-due c m g due′ same = go (rw (handed-frame (c .parameters .terms) (c .sender) m (frameDue-shows (c .sender) due′) same) at (due-outcome c m)) g
   where
-    P : Due → Type 0
-    P x = x .given ≡ false → ⊥
-
-    Q : Handed → Type 0
-    Q x = handBy c x (x .note) .given ≡ false → ⊥
+    go : {s : Sender} {p : Payload} {x : Due} → DueOutcome c (record { note = Frame; sender = s; payload = p }) x → x .given ≡ false → ⊥
+    go (accept-goes a) = true≢false
+    go (test-goes a t) = true≢false
+    go (ack-goes a t k) = true≢false
+    go (frame-goes t) = true≢false
 
 -- ---- the second half
 

@@ -7,23 +7,26 @@ use mathlib.Core.List.{List, [], _∷_, _++_}
 use mathlib.Core.Logic.{inl, inr}
 use mathlib.Core.Path.{_≡_, refl, sym, ap, subst₂, _∙_}
 use lib.Dec.{eqb}
-use borrow.Author.Tests.{ltb-true, eqb-true, eqb-false, eq-eqb, not-true}
+use borrow.Author.Tests.{eq-eqb}
 use lib.ListN.{length, take, drop, getD, length-append, length-take, List·getD-append}
 use lib.Seq.{getD-at, take-append-le}
 use Rattle.laws.specs.If.{if_then_else_}
-use Rattle.laws.proofs.Branches.{branches}
-use Rattle.laws.proofs.Cases.{both, by, by-not, by-lt, by-le, by-eq}
-use Rattle.delivery.proofs.Mod16.{ahead-shown, on-shown, row-shown}
+use Rattle.laws.proofs.Cases.{by-lt}
 use Rattle.telegram.specs.Cutting.{streamOf, framesOf, asksAt, lastAt}
-use Rattle.sender.specs.Sending.{idle, accepted, offered, distance, acknowledged, finished, heldFor, again, later, advanced, onAck, passed, frameDue, firstNumber, handed}
+use Rattle.sender.specs.Sending.{accepted, offered, distance, acknowledged, finished, heldFor, again, later, advanced, onAck, passed, handed}
 use Rattle.sender.specs.declared.Sender.{Sender}
 use Rattle.sender.specs.declared.Offered.{Offered}
 use Rattle.sender.specs.declared.Heard.{Heard}
 use Rattle.sender.specs.declared.Passed.{Passed}
 use Rattle.sender.specs.declared.Handed.{Handed}
+use Rattle.sender.proofs.Numbers.{distance-reaches, oldest-ahead, number-true}
+use Rattle.sender.proofs.Offers.{Takes, OfferCase, unfinished, no-bytes, too-long, accepts, offerCase}
+use Rattle.sender.proofs.Acks.{AckCase, no-message, in-hold, repeated, beyond, ack-used-up, held-back, all-acked, part-acked, ackCase}
+use Rattle.sender.proofs.Time.{TimeCase, no-wait, runs-on, wait-used-up, sends-again, timeCase}
+use Rattle.sender.proofs.Frames.{Due, FrameCase, none-due, other-length, frame-out, frameCase}
 use Rattle.receiver.specs.declared.Standing.{Standing}
 use Rattle.channel.specs.declared.Answer.the-variants.{Good, Done, UsedUp}
-use Rattle.delivery.specs.System.{Try, accepting, told, lent}
+use Rattle.delivery.specs.System.{Try, accepting, answerNoted, lent}
 use Rattle.delivery.specs.System.Side.{near}
 use Rattle.delivery.proofs.Core.{DataFrame, Direction, withSending, withFrame, offeredTo, heardTo, passedTo, handedTo, frameNow}
 use Rattle.delivery.proofs.Invariant.{current, Idle, Busy, Half, Sending, Carries, Placed, Forward, Shows, Backward, Begin, Complete, Content, Holds, Invariant, Kept}
@@ -52,8 +55,8 @@ next-block size block acked high a b c d =
 
 -- an Ack is awaited only for a message in sending
 waits-busy : {limit done size used block : ℕ} {accepted : List (List ℕ)} {m : List ℕ} {s : Sender}
-    → Half limit accepted done size used block m s → (s .wait ≡ 0 → ⊥) → 1 ≤ s .length
-waits-busy (inl i) h = absurd (h (i .wait))
+    → Half limit accepted done size used block m s → 0 < s .wait → 1 ≤ s .length
+waits-busy (inl i) h = absurd (omega (arith, i .wait))
 waits-busy (inr b) h = omega (arith, b .length′, b .some)
 
 -- time passes while no Ack is awaited
@@ -80,20 +83,6 @@ block-end size block next t1 last a b =
     λ h e.
     let r : (next + 1) % size ≡ 0 = ap (λ (n : ℕ). n % size) (let s : next + 1 ≡ suc block * size = omega arith in s) ∙ mul-mod-left (suc block) size in
     absurd (omega (arith, rw (eq-eqb _ _ r) at e))
-
--- a frame is due: a message is in sending, no Ack is awaited, and it has a next frame
-pub frame-due : (s : Sender) → frameDue s ≡ true → (1 ≤ s .length) × (s .wait ≡ 0) × (s .next < framesOf (s .length))
-unfolding frameDue
-frame-due s e =
-    let a = both _ _ e in
-    let w = both _ _ (both _ _ (both _ _ (a .0) .0) .0) in
-    let some : s .length ≡ 0 → ⊥ = eqb-false (s .length) 0 (not-true _ (w .0)) in
-    (omega arith, eqb-true _ _ (w .1), ltb-true _ _ (a .1))
-
--- and with T3 over and no hold running one is due then
-pub due-frame : (s : Sender) → 1 ≤ s .length → s .wait ≡ 0 → s .hold ≡ 0 → s .gap ≡ 0 → s .next < framesOf (s .length) → frameDue s ≡ true
-unfolding frameDue
-due-frame s some w h g more = let busy : s .length ≡ 0 → ⊥ = omega arith in search branches depth 12
 
 -- the frame of a place of a message
 abbrev framed : (m : List ℕ) (size n number : ℕ) (t : Try) → DataFrame
@@ -142,11 +131,11 @@ content-more m i (inr (inr c)) = absurd (omega (arith, c .counted, i .counted))
 
 module _ {limit room start used block : ℕ} {places : List ℕ} {d : Direction} (v : Invariant limit room start used block places d) where
   -- while the sending end is open, 8 was not answered
-  not-lost : d .live ≡ true → d .history .lost ≡ false
-  not-lost live = go (d .history .lost) refl
+  not-given-up : d .live ≡ true → d .history .givenUp ≡ false
+  not-given-up live = go (d .history .givenUp) refl
     where
-      go : (l : Bool) → d .history .lost ≡ l → l ≡ false
-      go true e = absurd (true≢false (sym live ∙ v .lost e .0))
+      go : (l : Bool) → d .history .givenUp ≡ l → l ≡ false
+      go true e = absurd (true≢false (sym live ∙ v .givenUp e .0))
       go false e = refl
 
   -- the link, with more handed over
@@ -156,11 +145,15 @@ module _ {limit room start used block : ℕ} {places : List ℕ} {d : Direction}
       forward-bounds start (start + d .sender .high) (start + high) (current (d .history)) (d .terms .block) (start + used) (start + used) (omega arith) (omega arith)
       places (d .frames) (v .forward)
 
+  -- with the ghosts as they were
+  as-before : {x : Direction} → Invariant limit room start used block places x → Kept limit room x
+  as-before w = (start, used, block, places, w)
+
   -- the sender changed, with nothing said; the message, its start and what the receiver used are as before
-  pub sender-keeps : d .live ≡ true → (q : ℕ) (s : Sender) → Sending limit (d .history) (d .terms .block) used q s
+  sender-keeps : d .live ≡ true → (q : ℕ) (s : Sender) → Sending limit (d .history) (d .terms .block) used q s
       → s .oldest ≡ (start + s .acked) % 16 → d .sender .high ≤ s .high
       → Backward (start + s .acked) (start + used) (d .receiver .ack) (d .acks)
-      → Invariant limit room start used q places (withSending d s true (told near (d .history) Good))
+      → Invariant limit room start used q places (withSending d s true (answerNoted near (d .history) Good))
   sender-keeps live q s sending oldest high backward =
       record {
         fair = v .fair;
@@ -172,29 +165,26 @@ module _ {limit room start used block : ℕ} {places : List ℕ} {d : Direction}
         backward = backward;
         content = v .content;
         inOrder = v .inOrder;
-        lost = λ w. absurd (false≢true (rw (not-lost live) at w));
+        givenUp = λ w. absurd (false≢true (rw (not-given-up live) at w));
       }
-
-  pub nothing-keeps : d .live ≡ true → Invariant limit room start used block places (withSending d (d .sender) true (told near (d .history) Good))
-  nothing-keeps live = sender-keeps live block (d .sender) (v .sending) (v .oldest) (omega arith) (v .backward)
 
   pub in-sending : 1 ≤ d .sender .length → Busy limit (d .history .accepted) (d .history .done) (d .terms .block) used block (current (d .history)) (d .sender)
   in-sending some = busy-of (v .sending) some
 
   -- at most 15 frames used are not acknowledged
-  pub window : 1 ≤ d .sender .length → used ≤ d .sender .acked + 15
+  window : 1 ≤ d .sender .length → used ≤ d .sender .acked + 15
   window some = let b = in-sending some in let f = v .fair in omega arith
 
   -- one more repeat
-  pub again-keeps : d .live ≡ true → 1 ≤ d .sender .length → (pause gap : ℕ)
-      → Invariant limit room start used block places (withSending d (again (d .sender) pause gap) true (told near (d .history) Good))
+  again-keeps : d .live ≡ true → 1 ≤ d .sender .length → (pause gap : ℕ)
+      → Invariant limit room start used block places (withSending d (again (d .sender) pause gap) true (answerNoted near (d .history) Good))
   again-keeps live some pause gap =
       let b = in-sending some in
       sender-keeps live block (again (d .sender) pause gap) (inr (omega arith)) (v .oldest) (omega arith) (v .backward)
 
   -- 8: the half is as it was, and the end is closed
-  pub lost-keeps : 1 ≤ d .sender .length → Invariant limit room start used block places (withSending d (d .sender) false (told near (d .history) UsedUp))
-  lost-keeps some =
+  given-up-keeps : 1 ≤ d .sender .length → Invariant limit room start used block places (withSending d (d .sender) false (answerNoted near (d .history) UsedUp))
+  given-up-keeps some =
       record {
         fair = v .fair;
         room′ = v .room′;
@@ -205,222 +195,202 @@ module _ {limit room start used block : ℕ} {places : List ℕ} {d : Direction}
         backward = v .backward;
         content = v .content;
         inOrder = v .inOrder;
-        lost = λ w. (refl, some);
+        givenUp = λ w. (refl, some);
       }
 
   -- ---- an Ack
 
   -- a part of the message acknowledged, in the same block or up to the next
-  pub acknowledged-keeps : d .live ≡ true → 1 ≤ d .sender .length → (x pause : ℕ) → d .sender .acked + x ≤ used
-      → (d .sender .acked + x ≡ framesOf (length (current (d .history))) → ⊥)
+  acknowledged-keeps : d .live ≡ true → 1 ≤ d .sender .length → (x pause : ℕ) → d .sender .acked + x ≤ used
+      → (d .sender .acked + x ≡ framesOf (d .sender .length) → ⊥)
       → Backward (start + (d .sender .acked + x)) (start + used) (d .receiver .ack) (d .acks)
-      → (q : ℕ) × Invariant limit room start used q places (withSending d (acknowledged (d .sender) x pause) true (told near (d .history) Good))
+      → (q : ℕ) × Invariant limit room start used q places (withSending d (acknowledged (d .sender) x pause) true (answerNoted near (d .history) Good))
   acknowledged-keeps live some x pause most more backward =
       let b = in-sending some in
       let f = v .fair in
+      let same = ap framesOf (b .length′) in
       let g = next-block (d .terms .block) block (d .sender .acked + x) (d .sender .high) (f .least) (omega arith) (omega arith) (b .high-block) in
-      let o = on-shown _ _ x (v .oldest) ∙ ap (λ (n : ℕ). n % 16) (let e : start + d .sender .acked + x ≡ start + (d .sender .acked + x) = omega arith in e) in
-      (g .0, sender-keeps live (g .0) (acknowledged (d .sender) x pause) (inr (omega arith)) o (omega arith) backward)
+      (g .0, sender-keeps live (g .0) (acknowledged (d .sender) x pause) (inr (omega arith)) (oldest-ahead (d .sender) start (v .oldest) x) (omega arith) backward)
 
   -- the last frames acknowledged: the next message will start behind what is used
-  pub finished-keeps : d .live ≡ true → 1 ≤ d .sender .length → (x pause : ℕ) → d .sender .acked + x ≤ used
-      → d .sender .acked + x ≡ framesOf (length (current (d .history)))
-      → Backward (start + used) (start + used) (d .receiver .ack) (d .acks)
-      → Invariant limit room (start + used) 0 0 places (withSending d (finished (d .sender) x pause) true (told near (d .history) Done))
+  finished-keeps : d .live ≡ true → 1 ≤ d .sender .length → (x pause : ℕ) → d .sender .acked + x ≤ used
+      → d .sender .acked + x ≡ framesOf (d .sender .length)
+      → Backward (start + (d .sender .acked + x)) (start + used) (d .receiver .ack) (d .acks)
+      → Invariant limit room (start + used) 0 0 places (withSending d (finished (d .sender) x pause) true (answerNoted near (d .history) Done))
   finished-keeps live some x pause most all backward =
       let b = in-sending some in
+      let same = ap framesOf (b .length′) in
       record {
         fair = v .fair;
         room′ = v .room′;
         sending = inl (omega arith);
-        oldest = on-shown _ _ x (v .oldest) ∙ ap (λ (n : ℕ). n % 16) (omega arith);
+        oldest = oldest-ahead (d .sender) start (v .oldest) x ∙ ap (λ (n : ℕ). n % 16) (omega arith);
         expected = v .expected ∙ ap (λ (n : ℕ). n % 16) (omega arith);
         forward =
             forward-old start (start + d .sender .high) (start + used) (start + used + 0) _ _ _ (start + used) (start + used + 0)
             (omega arith) (omega arith) (omega arith) places (d .frames) (v .forward);
         backward =
-            backward-bounds (start + used) (start + used + 0) (start + used) (start + used + 0) (d .receiver .ack) (omega arith) (omega arith) (d .acks) backward;
+            backward-bounds (start + (d .sender .acked + x)) (start + used + 0) (start + used) (start + used + 0) (d .receiver .ack) (omega arith) (omega arith) (d .acks) backward;
         content = inl (begun (v .content));
         inOrder = v .inOrder;
-        lost = λ w. absurd (false≢true (rw (not-lost live) at w));
+        givenUp = λ w. absurd (false≢true (rw (not-given-up live) at w));
       }
     where
       begun : Content used (d .history) (d .receiver) (d .buffer)
           → Begin 0 (d .history .done + 1) (d .history .accepted) (d .history .handedOut) (d .receiver .at) (d .receiver .complete .length) (d .buffer)
-      begun (inl c) = let b = in-sending some in absurd (omega (arith, c .none))
-      begun (inr (inl c)) = absurd (omega (arith, c .inside .most))
+      begun (inl c) = let b = in-sending some in absurd (omega (arith, c .none, ap framesOf (b .length′)))
+      begun (inr (inl c)) = absurd (omega (arith, c .inside .most, ap framesOf (in-sending some .length′)))
       begun (inr (inr c)) = record { none = refl; between = c .between; complete = c .complete }
 
-  -- the distance that a number in range shows is the true one
-  pub distance-true : 1 ≤ d .sender .length → (number j : ℕ) → Shows (start + d .sender .acked) (start + used) number j
+  -- a number in range leads to the frame whose index it shows
+  shown-reached : 1 ≤ d .sender .length → (number j : ℕ) → Shows (start + d .sender .acked) (start + used) number j
       → start + (d .sender .acked + distance (d .sender) number) ≡ j
-  unfolding distance
-  distance-true some number j p =
+  shown-reached some number j p =
       let w = window some in
-      let e = ahead-shown j (start + d .sender .acked) (p .least) (omega arith) in
-      rw (v .oldest, p .number, e) (omega arith)
+      let least = p .least in
+      let most = p .most in
+      let shown : number ≡ (start + (j - start)) % 16 = p .number ∙ ap (λ (n : ℕ). n % 16) (omega arith) in
+      let e = distance-reaches (d .sender) start (v .oldest) number (j - start) shown (omega arith) (omega arith) in
+      omega arith
 
   -- an Ack arrives; all that follow it show as much or more
   pub ack-keeps : d .live ≡ true → (ready : Bool) (number j : ℕ) → Shows (start + d .sender .acked) (start + used) number j
       → Backward j (start + used) (d .receiver .ack) (d .acks)
       → Kept limit room (heardTo d (onAck (d .terms) (d .sender) ready number))
-  unfolding onAck
-  ack-keeps live ready number j p backward =
-      by-eq P (d .sender .length) 0 (λ _. nothing) λ none.
-      let some : 1 ≤ d .sender .length = omega arith in
-      let e = distance-true some number j p in
-      by-lt P 0 (d .sender .hold) (λ _. nothing) λ _.
-      by-eq P (distance (d .sender) number) 0
-      (λ _. by P ready (λ _. nothing) λ _.
-      by-le P (d .terms .repeats) (d .sender .count)
-      (λ _. (start, used, block, places, lost-keeps some))
-      λ _. (start, used, block, places, again-keeps live some (d .terms .pause) (d .sender .gap)))
-      λ _.
-      by-lt P (d .sender .high) (d .sender .acked + distance (d .sender) number) (λ _. nothing) λ _.
-      by-eq P (d .sender .acked + distance (d .sender) number) (framesOf (d .sender .length))
-      (λ all. (start + used, 0, 0, places, whole some e all))
-      λ more. part some e more
+  ack-keeps live ready number j p backward = go (ackCase (d .terms) (d .sender) ready number)
     where
-      P : Heard → Type 0
-      P g = Kept limit room (heardTo d g)
-
-      nothing : Kept limit room (withSending d (d .sender) true (told near (d .history) Good))
-      nothing = (start, used, block, places, nothing-keeps live)
-
       x : ℕ
       x = distance (d .sender) number
 
-      whole : 1 ≤ d .sender .length → start + (d .sender .acked + x) ≡ j → d .sender .acked + x ≡ framesOf (d .sender .length)
-          → Invariant limit room (start + used) 0 0 places (withSending d (finished (d .sender) x (heldFor (d .terms) ready)) true (told near (d .history) Done))
-      whole some e all =
-          let b = in-sending some in
-          let all′ = all ∙ ap framesOf (b .length′) in
-          let least = p .least in
-          let most = p .most in
-          finished-keeps live some x (heldFor (d .terms) ready) (omega arith) all′
-          (backward-bounds j (start + used) (start + used) (start + used) (d .receiver .ack) (omega arith) (omega arith) (d .acks) backward)
+      nothing : Kept limit room (withSending d (d .sender) true (answerNoted near (d .history) Good))
+      nothing = as-before (sender-keeps live block (d .sender) (v .sending) (v .oldest) (omega arith) (v .backward))
 
-      part : 1 ≤ d .sender .length → start + (d .sender .acked + x) ≡ j → (d .sender .acked + x ≡ framesOf (d .sender .length) → ⊥)
-          → Kept limit room (withSending d (acknowledged (d .sender) x (heldFor (d .terms) ready)) true (told near (d .history) Good))
-      part some e more =
-          let b = in-sending some in
-          let most = p .most in
-          let k = acknowledged-keeps live some x (heldFor (d .terms) ready) (omega arith) (λ all. more (all ∙ sym (ap framesOf (b .length′))))
-          (backward-bounds j (start + (d .sender .acked + x)) (start + used) (start + used) (d .receiver .ack) (omega arith) (omega arith) (d .acks) backward) in
+      -- the Acks that follow, by the frame that this one reaches
+      follow : 1 ≤ d .sender .length → Backward (start + (d .sender .acked + x)) (start + used) (d .receiver .ack) (d .acks)
+      follow some = rw (shown-reached some number j p) backward
+
+      reached-used : 1 ≤ d .sender .length → d .sender .acked + x ≤ used
+      reached-used some = let e = shown-reached some number j p in let most = p .most in omega arith
+
+      go : {h : Heard} → AckCase (d .terms) (d .sender) ready number h → Kept limit room (heardTo d h)
+      go (no-message _) = nothing
+      go (in-hold _ _) = nothing
+      go (repeated _ _ _) = nothing
+      go (beyond _ _ _) = nothing
+      go (ack-used-up a _) = as-before (given-up-keeps (a .counts .sending))
+      go (held-back a _) = as-before (again-keeps live (a .counts .sending) (d .terms .«t_wait») (d .sender .gap))
+      go (all-acked a all) =
+          let some = a .counts .sending in
+          (start + used, 0, 0, places, finished-keeps live some x (heldFor (d .terms) ready) (reached-used some) all (follow some))
+      go (part-acked a more) =
+          let some = a .counts .sending in
+          let k = acknowledged-keeps live some x (heldFor (d .terms) ready) (reached-used some) more (follow some) in
           (start, used, k .0, places, k .1)
 
   -- ---- time
 
-  -- a message is in sending whenever an Ack is awaited
-  pub awaited : (d .sender .wait ≡ 0 → ⊥) → 1 ≤ d .sender .length
-  awaited h = waits-busy (v .sending) h
-
   -- no wait ran out
-  pub later-keeps : d .live ≡ true → (n : ℕ) → Sending limit (d .history) (d .terms .block) used block (later (d .sender) n)
-      → Invariant limit room start used block places (withSending d (later (d .sender) n) true (told near (d .history) Good))
-  later-keeps live n sending = sender-keeps live block (later (d .sender) n) sending (v .oldest) (omega arith) (v .backward)
+  later-keeps : d .live ≡ true → (n : ℕ) → Sending limit (d .history) (d .terms .block) used block (later (d .sender) n)
+      → Kept limit room (withSending d (later (d .sender) n) true (answerNoted near (d .history) Good))
+  later-keeps live n sending = as-before (sender-keeps live block (later (d .sender) n) sending (v .oldest) (omega arith) (v .backward))
 
   pub pass-keeps : d .live ≡ true → (n : ℕ) → Kept limit room (passedTo d (passed (d .terms) (d .sender) n))
-  unfolding passed
-  pass-keeps live n =
-      by-eq P (d .sender .wait) 0 (λ w. (start, used, block, places, later-keeps live n (unawaited n w (v .sending)))) λ w.
-      by-lt P n (d .sender .wait) (λ l. (start, used, block, places, later-keeps live n (still-awaited n l (v .sending)))) λ _.
-      by-le P (d .terms .repeats) (d .sender .count)
-      (λ _. (start, used, block, places, lost-keeps (awaited w)))
-      λ _. (start, used, block, places, again-keeps live (awaited w) (d .sender .hold - n) (d .sender .gap - n))
+  pass-keeps live n = go (timeCase (d .terms) (d .sender) n)
     where
-      P : Passed → Type 0
-      P g = Kept limit room (passedTo d g)
+      go : {g : Passed} → TimeCase (d .terms) (d .sender) n g → Kept limit room (passedTo d g)
+      go (no-wait w) = later-keeps live n (unawaited n w (v .sending))
+      go (runs-on l) = later-keeps live n (still-awaited n l (v .sending))
+      go (wait-used-up r _) = as-before (given-up-keeps (waits-busy (v .sending) (r .runs)))
+      go (sends-again r _) = as-before (again-keeps live (waits-busy (v .sending) (r .runs)) (d .sender .hold - n) (d .sender .gap - n))
 
   -- ---- a frame handed over
 
   -- the message lent is the one in sending
-  pub lent-current : 1 ≤ d .sender .length → lent (d .history) ≡ current (d .history)
+  lent-current : 1 ≤ d .sender .length → lent (d .history) ≡ current (d .history)
   lent-current some = let b = in-sending some in ap (λ (n : ℕ). getD (d .history .accepted) n []) (omega arith)
 
   -- the next frame has the index of its place
   next-placed : 1 ≤ d .sender .length
       → Placed start (start + max (d .sender .high) (d .sender .next + 1)) (current (d .history)) (d .terms .block)
       (start + max (d .sender .high) (d .sender .next + 1)) (start + d .sender .next) (frameNow d)
-  unfolding firstNumber
   next-placed some =
       let b = in-sending some in
       let f = v .fair in
       record {
-        number = rw (v .oldest) (row-shown start (d .sender .acked) (d .sender .next));
+        number = number-true (d .sender) start (v .oldest) (d .sender .next);
         close = omega arith;
         below = omega arith;
         carries = λ k e. carried (lent (d .history)) (current (d .history)) (d .terms .block) (d .sender .next) k _ _ (lent-current some) (omega arith);
       }
 
-  pub frame-keeps : 1 ≤ d .sender .length → d .sender .wait ≡ 0 → d .sender .next < framesOf (d .sender .length)
-      → Invariant limit room start used block (places ++ ((start + d .sender .next) ∷ [])) (withFrame d (advanced (d .terms) (d .sender)))
-  frame-keeps some none more =
-      let b = in-sending some in
+  -- with the next frame handed over the message is still in sending
+  advanced-busy : Due (d .sender) → Sending limit (d .history) (d .terms .block) used block (advanced (d .terms) (d .sender))
+  advanced-busy due =
+      let b = in-sending (due .sending) in
       let f = v .fair in
-      let i = b .inside none in
-      let more′ : d .sender .next < framesOf (length (current (d .history))) = rw (ap framesOf (b .length′)) at more in
-      let top = start + max (d .sender .high) (d .sender .next + 1) in
+      let i = b .inside (due .waited) in
+      let more : d .sender .next < framesOf (length (current (d .history))) = rw (ap framesOf (b .length′)) at (due .more) in
+      inr
+      (record {
+        counted = b .counted;
+        length′ = b .length′;
+        some = b .some;
+        within = b .within;
+        acked-used = b .acked-used;
+        used-high = omega arith;
+        acked-next = omega arith;
+        next-high = omega arith;
+        high-all = omega arith;
+        acked-all = b .acked-all;
+        block-acked = b .block-acked;
+        acked-block = b .acked-block;
+        high-block = omega arith;
+        inside = block-end (d .terms .block) block (d .sender .next) (d .terms .t1) (lastAt (d .sender .length) (d .sender .next)) (f .t1) i;
+      })
+
+  frame-keeps : Due (d .sender) → Invariant limit room start used block (places ++ ((start + d .sender .next) ∷ [])) (withFrame d (advanced (d .terms) (d .sender)))
+  frame-keeps due =
+      let b = in-sending (due .sending) in
+      let high = max (d .sender .high) (d .sender .next + 1) in
       record {
         fair = v .fair;
         room′ = v .room′;
-        sending =
-            inr
-            (record {
-              counted = b .counted;
-              length′ = b .length′;
-              some = b .some;
-              within = b .within;
-              acked-used = b .acked-used;
-              used-high = omega arith;
-              acked-next = omega arith;
-              next-high = omega arith;
-              high-all = omega arith;
-              acked-all = b .acked-all;
-              block-acked = b .block-acked;
-              acked-block = b .acked-block;
-              high-block = omega arith;
-              inside = block-end (d .terms .block) block (d .sender .next) (d .terms .t1) (lastAt (d .sender .length) (d .sender .next)) (f .t1) i;
-            });
+        sending = advanced-busy due;
         oldest = v .oldest;
         expected = v .expected;
         forward =
-            forward-more start top (current (d .history)) (d .terms .block) (start + used) (omega arith) places (d .frames)
-            (wider (max (d .sender .high) (d .sender .next + 1)) (omega arith))
-            (start + d .sender .next) (frameNow d) (next-placed some);
+            forward-more start (start + high) (current (d .history)) (d .terms .block) (start + used) (omega arith) places (d .frames)
+            (wider high (omega arith)) (start + d .sender .next) (frameNow d) (next-placed (due .sending));
         backward = v .backward;
         content = v .content;
         inOrder = v .inOrder;
-        lost = v .lost;
+        givenUp = v .givenUp;
       }
 
   pub hand-keeps : Kept limit room (handedTo d (handed (d .terms) (d .sender) (lent (d .history))))
-  unfolding handed
-  hand-keeps =
-      by-not P (frameDue (d .sender)) (λ _. (start, used, block, places, v)) λ due.
-      by-not P (eqb (length (lent (d .history))) (d .sender .length)) (λ _. (start, used, block, places, v)) λ _.
-      let f = frame-due (d .sender) due in
-      (start, used, block, places ++ ((start + d .sender .next) ∷ []), frame-keeps (f .0) (f .1) (f .2))
+  hand-keeps = go (frameCase (d .terms) (d .sender) (lent (d .history)))
     where
-      P : Handed → Type 0
-      P g = Kept limit room (handedTo d g)
+      go : {g : Handed} → FrameCase (d .terms) (d .sender) (lent (d .history)) g → Kept limit room (handedTo d g)
+      go (none-due _) = as-before v
+      go (other-length _ _) = as-before v
+      go (frame-out due _) = (start, used, block, places ++ ((start + d .sender .next) ∷ []), frame-keeps due)
 
   -- ---- a message offered
 
   -- no more messages were handed out than accepted
-  pub handed-most : length (d .history .handedOut) ≤ length (d .history .accepted)
+  handed-most : length (d .history .handedOut) ≤ length (d .history .accepted)
   handed-most = omega (arith, simp length-take at (ap length (v .inOrder)))
 
-  pub accepted-keeps : d .sender .length ≡ 0 → (m : List ℕ) → 1 ≤ length m → length m ≤ limit
+  accepted-keeps : (m : List ℕ) → Takes limit (d .sender) (length m)
       → Invariant limit room start used 0 places (withSending d (accepted (d .sender) (length m)) (d .live) (accepting (d .history) m))
-  accepted-keeps none m some within =
-      let i = idle-of (v .sending) none in
+  accepted-keeps m t =
+      let i = idle-of (v .sending) (t .free) in
       let e = getD-at (d .history .accepted) m [] [] (d .history .done) (i .counted) in
       let s = d .sender in
       record {
         fair = v .fair;
         room′ = v .room′;
-        sending = inr (begun-busy limit (d .history .accepted) (d .history .done) (d .terms .block) used m _ s (ap length e) some within (v .fair .least) i);
+        sending = inr (begun-busy limit (d .history .accepted) (d .history .done) (d .terms .block) used m _ s (ap length e) (t .some) (t .within) (v .fair .least) i);
         oldest = v .oldest ∙ ap (λ (n : ℕ). (start + n) % 16) (i .acked);
         expected = v .expected;
         forward =
@@ -430,16 +400,14 @@ module _ {limit room start used block : ℕ} {places : List ℕ} {d : Direction}
             backward-bounds (start + s .acked) (start + 0) (start + used) (start + used) (d .receiver .ack) (omega arith) (omega arith) (d .acks) (v .backward);
         content = inl (content-more m i (v .content));
         inOrder = v .inOrder ∙ sym (take-append-le _ (d .history .accepted) (m ∷ []) handed-most);
-        lost = λ w. (v .lost w .0, some);
+        givenUp = λ w. (v .givenUp w .0, t .some);
       }
 
   pub offer-keeps : (m : List ℕ) → Kept limit room (offeredTo d m (offered limit (d .sender) (length m)))
-  unfolding offered
-  offer-keeps m =
-      by-not P (idle (d .sender)) (λ _. (start, used, block, places, v)) λ none.
-      by-eq P (length m) 0 (λ _. (start, used, block, places, v)) λ some.
-      by-lt P limit (length m) (λ _. (start, used, block, places, v)) λ within.
-      (start, used, 0, places, accepted-keeps (eqb-true _ _ none) m (omega arith) within)
+  offer-keeps m = go (offerCase limit (d .sender) (length m))
     where
-      P : Offered → Type 0
-      P g = Kept limit room (offeredTo d m g)
+      go : {g : Offered} → OfferCase limit (d .sender) (length m) g → Kept limit room (offeredTo d m g)
+      go (unfinished _) = as-before v
+      go (no-bytes _ _) = as-before v
+      go (too-long _ _) = as-before v
+      go (accepts t) = (start, used, 0, places, accepted-keeps m t)

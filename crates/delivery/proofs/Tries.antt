@@ -39,9 +39,9 @@ pub data Row (start end : ℕ) (t : Try) (spared : Type 0) (next : ℕ) : ℕ �
       → Row start end t spared next (i + 1) l → Row start end t spared next from (f ∷ l)
 
 -- at most one frame, which is not the expected one, of the try t
-pub data Left (expected : ℕ) (t : Try) : List DataFrame → Type 0 where
-  none : Left expected t []
-  one : {f : DataFrame} → (f .number ≡ expected → ⊥) → f .try ≡ t → Left expected t (f ∷ [])
+pub data Leftover (expected : ℕ) (t : Try) : List DataFrame → Type 0 where
+  none : Leftover expected t []
+  one : {f : DataFrame} → (f .number ≡ expected → ⊥) → f .try ≡ t → Leftover expected t (f ∷ [])
 
 -- the frames of the running try, alone or behind one that is left and is not the expected one; then nothing of the try has arrived
 pub data Line (start end : ℕ) (t : Try) (spared : Type 0) (next from used acked expected : ℕ) : List DataFrame → Type 0 where
@@ -102,7 +102,7 @@ pub record Window (size total block end used acked next high : ℕ) : Type 0 whe
 -- each repeat of the block is told by a try that lost a frame, and so are the frames handed over
 pub record Tally (allowed base end repeats : ℕ) (t : Try) (count next : ℕ) (frames losses : List Try) : Type 0 where
   pub counts : count ≤ repeats
-  pub lost : repeats ≤ losers t losses
+  pub losing : repeats ≤ losers t losses
   pub handed : framesFor (t .message) frames + repeats * base + base ≤ (allowed + 1) * base + repeats * end + next
 
 -- the message in sending is the last one accepted
@@ -151,7 +151,7 @@ pub record OnItsWay (g : Ghosts) (from acked next oldest wait expected : ℕ) (a
 pub record Answered (g : Ghosts) (old next oldest wait expected : ℕ) (ack : AckDue) (link : List DataFrame) (acks : List AckFrame)
     (turns : ℕ) (ackTry : Try) (losses : List Try) : Type 0 where
   pub over : Over (g .end) turns (g .t) wait next
-  pub link′ : Left expected (g .t) link
+  pub link′ : Leftover expected (g .t) link
   pub acks′ : Rises oldest expected (g .t) old acks
   pub due : Due expected ack
   pub asker : ack .due ≡ true → ackTry ≡ g .t
@@ -168,19 +168,19 @@ pub record Nothing (length′ wait oldest expected : ℕ) (accepted : List (List
   pub frames′ : framesFor done frames ≡ 0
 
 -- what the last try left
-pub record Quiet (t : Try) (length′ wait oldest expected : ℕ) (ack : AckDue) (link : List DataFrame) (acks : List AckFrame)
+pub record Vacant (t : Try) (length′ wait oldest expected : ℕ) (ack : AckDue) (link : List DataFrame) (acks : List AckFrame)
     (accepted : List (List ℕ)) (done : ℕ) (frames : List Try) : Type 0 where
   pub nothing : Nothing length′ wait oldest expected accepted done frames
-  pub link′ : Left expected t link
+  pub link′ : Leftover expected t link
   pub acks′ : Each (Says expected) acks
   pub due : Due expected ack
 
 -- ---- all of it
 
 -- the stages of a direction
-abbrev pub QuietOf : Try → Direction → Type 0
-QuietOf t d =
-    Quiet t (d .sender .length) (d .sender .wait) (d .sender .oldest) (d .receiver .at .expected) (d .receiver .ack) (d .frames) (d .acks)
+abbrev pub VacantOf : Try → Direction → Type 0
+VacantOf t d =
+    Vacant t (d .sender .length) (d .sender .wait) (d .sender .oldest) (d .receiver .at .expected) (d .receiver .ack) (d .frames) (d .acks)
     (d .history .accepted) (d .history .done) (d .history .frames)
 
 abbrev pub BlockOf : Ghosts → Direction → Type 0
@@ -210,15 +210,15 @@ AnsweredOf g old d =
 
 -- the stage that a direction is in
 pub data Stage (d : Direction) : Type 0 where
-  quiet : (t : Try) → QuietOf t d → Stage d
+  vacant : (t : Try) → VacantOf t d → Stage d
   onItsWay : (g : Ghosts) (from : ℕ) → BlockOf g d → OnItsWayOf g from d → Stage d
   answered : (g : Ghosts) (old : ℕ) → BlockOf g d → AnsweredOf g old d → Stage d
 
 -- the same stage, of a direction of which the same is said
-pub stage-as : {d d′ : Direction} → ((t : Try) → QuietOf t d → QuietOf t d′) → ((g : Ghosts) → BlockOf g d → BlockOf g d′)
+pub stage-as : {d d′ : Direction} → ((t : Try) → VacantOf t d → VacantOf t d′) → ((g : Ghosts) → BlockOf g d → BlockOf g d′)
     → ((g : Ghosts) (from : ℕ) → OnItsWayOf g from d → OnItsWayOf g from d′) → ((g : Ghosts) (old : ℕ) → AnsweredOf g old d → AnsweredOf g old d′)
     → Stage d → Stage d′
-stage-as q b o a (quiet t x) = quiet t (q t x)
+stage-as q b o a (vacant t x) = vacant t (q t x)
 stage-as q b o a (onItsWay g from x y) = onItsWay g from (b g x) (o g from y)
 stage-as q b o a (answered g old x y) = answered g old (b g x) (a g old y)
 

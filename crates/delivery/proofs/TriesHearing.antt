@@ -8,13 +8,13 @@ use mathlib.Core.Logic.{_⊎_, inl, inr}
 use mathlib.Core.Path.{_≡_, refl, sym, ap, subst, _∙_}
 use lib.ListN.{length, getD}
 use Rattle.laws.proofs.Cases.{by, by-lt, by-eq}
-use Rattle.delivery.proofs.Mod16.{ahead-shown, on-shown}
 use Rattle.telegram.specs.Cutting.{framesOf}
 use Rattle.sender.specs.Sending.{distance, acknowledged, finished, onAck, heldFor}
 use Rattle.sender.specs.declared.Terms.{Terms}
-use Rattle.sender.specs.declared.Heard.{Heard}
+use Rattle.sender.proofs.Numbers.{distance-oldest, distance-reaches, oldest-ahead}
+use Rattle.sender.proofs.Acks.{Acknowledges, onAck-ignored, onAck-last, onAck-part}
 use Rattle.channel.specs.declared.Answer.the-variants.{Good, Done, NoChange}
-use Rattle.delivery.specs.System.{Try, Fate, told, losing}
+use Rattle.delivery.specs.System.{Try, Fate, answerNoted, losing}
 use Rattle.delivery.specs.System.Side.{near}
 use Rattle.delivery.specs.System.Fate.{goes, stays, lost}
 use Rattle.delivery.specs.Claim.{FewLosses, framesFor}
@@ -24,7 +24,7 @@ use Rattle.delivery.proofs.Tries.{Says, Answers, Each, Rises, Due, Ghos
 use Rattle.delivery.proofs.Tries.Each.{each}
 use Rattle.delivery.proofs.Tries.Rises.{risen, rising}
 use Rattle.delivery.proofs.Tries.Pace.{sending}
-use Rattle.delivery.proofs.Tries.Stage.{quiet, onItsWay, answered}
+use Rattle.delivery.proofs.Tries.Stage.{vacant, onItsWay, answered}
 use Rattle.delivery.proofs.TriesLinks.{left-line, each-says, block-lost, stage-lost}
 use Rattle.delivery.proofs.TriesSending.{tally-again, againTried, steady-with}
 
@@ -35,7 +35,7 @@ module _ {terms : Terms} {d : Direction} (v : Tried terms d) where
 
   -- ---- an Ack that shows what is acknowledged already
 
-  unmoved : (rest : List AckFrame) → Stage (resting rest) → Tried terms (withSending (resting rest) (d .sender) true (told near (d .history) NoChange))
+  unmoved : (rest : List AckFrame) → Stage (resting rest) → Tried terms (withSending (resting rest) (d .sender) true (answerNoted near (d .history) NoChange))
   unmoved rest stage =
       record {
         steady = steady-with v (d .sender .hold) (v .steady .hold′);
@@ -44,29 +44,23 @@ module _ {terms : Terms} {d : Direction} (v : Tried terms d) where
         stage = stage-as (λ _ q. q) (λ _ b. b) (λ _ _ o. o) (λ _ _ a. a) stage;
       }
 
+  -- a ready Ack that acknowledges nothing changes nothing
+  ignored-tried : (rest : List AckFrame) → Stage (resting rest) → (ready : Bool) (number : ℕ) → ready ≡ true → (Acknowledges (d .sender) number → ⊥)
+      → Tried terms (heardTo (resting rest) (onAck (d .terms) (d .sender) ready number))
+  ignored-tried rest stage ready number r none = rw (onAck-ignored (d .terms) (d .sender) ready number none (λ a. true≢false (sym r ∙ a .busy))) (unmoved rest stage)
+
   heard-old : (rest : List AckFrame) → Stage (resting rest) → (ready : Bool) (number : ℕ) → ready ≡ true → number ≡ d .sender .oldest
       → Tried terms (heardTo (resting rest) (onAck (d .terms) (d .sender) ready number))
-  unfolding onAck distance
-  heard-old rest stage ready number r e =
-      by-eq P (d .sender .length) 0 (λ _. unmoved rest stage) λ _.
-      by-lt P 0 (d .sender .hold) (λ _. unmoved rest stage) λ _.
-      by-eq P (distance (d .sender) number) 0
-      (λ _. by P ready (λ _. unmoved rest stage) λ f. absurd (true≢false (sym r ∙ f)))
-      λ far. absurd (far (rw e (omega arith)))
-    where
-      P : Heard → Type 0
-      P x = Tried terms (heardTo (resting rest) x)
+  heard-old rest stage ready number r e = let far = ap (distance (d .sender)) e ∙ distance-oldest (d .sender) in ignored-tried rest stage ready number r (λ a. omega arith)
 
   -- ---- an Ack that shows what is used
 
-  -- the distance that it shows is the true one
-  distance-used : (g : Ghosts) → BlockOf g d → (number : ℕ) → number ≡ d .receiver .at .expected → d .sender .acked + distance (d .sender) number ≡ g .used
-  unfolding distance
-  distance-used g b number e =
+  -- it reaches what is used
+  used-reached : (g : Ghosts) → BlockOf g d → (number : ℕ) → number ≡ d .receiver .at .expected → d .sender .acked + distance (d .sender) number ≡ g .used
+  used-reached g b number e =
       let w = b .window in
       let f = v .steady .fair in
-      let a = ahead-shown (g .start + g .used) (g .start + d .sender .acked) (omega arith) (omega arith) in
-      rw (e ∙ b .expected′, b .oldest′, a) (omega arith)
+      distance-reaches (d .sender) (g .start) (b .oldest′) number (g .used) (e ∙ b .expected′) (omega arith) (omega arith)
 
   module _ (few : FewLosses (d .terms .repeats) (d .history .losses)) (g : Ghosts) (old : ℕ) (b : BlockOf g d) (a : AnsweredOf g old d)
       (rest : List AckFrame) (all : Each (Answers (d .receiver .at .expected) (g .t)) rest)
@@ -77,7 +71,7 @@ module _ {terms : Terms} {d : Direction} (v : Tried terms d) where
 
     -- the number of the oldest frame that is not acknowledged then
     oldest-then : (d .sender .oldest + x) % 16 ≡ d .receiver .at .expected
-    oldest-then = on-shown (d .sender .oldest) (g .start + d .sender .acked) x (b .oldest′) ∙ ap (λ n. n % 16) (omega arith) ∙ sym (b .expected′)
+    oldest-then = oldest-ahead (d .sender) (g .start) (b .oldest′) x ∙ ap (λ n. n % 16) (omega arith) ∙ sym (b .expected′)
 
     -- the frames handed over for the message, up to the end of this block
     block-within : Within (g .t .message) (g .end)
@@ -85,17 +79,17 @@ module _ {terms : Terms} {d : Direction} (v : Tried terms d) where
         let w = b .window in
         let y = b .tally in
         block-frames (d .terms .repeats) (g .repeats) (g .t .block * d .terms .block) (g .end) (framesFor (g .t .message) (d .history .frames)) (omega arith)
-        (omega (arith, losers-few (d .terms .repeats) (g .t) (d .history .losses) few, y .lost)) (omega (arith, y .handed, a .over .next′))
+        (omega (arith, losers-few (d .terms .repeats) (g .t) (d .history .losses) few, y .losing)) (omega (arith, y .handed, a .over .next′))
 
     -- the last block: the message is done
-    finished-tried : g .used ≡ framesOf (d .sender .length) → Tried terms (withSending (resting rest) (finished (d .sender) x pause) true (told near (d .history) Done))
+    finished-tried : g .used ≡ framesOf (d .sender .length) → Tried terms (withSending (resting rest) (finished (d .sender) x pause) true (answerNoted near (d .history) Done))
     finished-tried whole =
         record {
           steady = steady-with v pause none;
           room = v .room;
           bounded = record { before = λ i h. up-to i (omega arith); after = λ i h. v .bounded .after i (omega arith) };
           stage =
-              quiet (g .t)
+              vacant (g .t)
               (record {
                 nothing =
                     record {
@@ -129,7 +123,7 @@ module _ {terms : Terms} {d : Direction} (v : Tried terms d) where
 
     -- the message goes on: in the block, or with the next one
     abbrev onward : Direction
-    onward = withSending (resting rest) (acknowledged (d .sender) x pause) true (told near (d .history) Good)
+    onward = withSending (resting rest) (acknowledged (d .sender) x pause) true (answerNoted near (d .history) Good)
 
     resumed : (end : ℕ) (repeats : ℕ) (t : Try) → d .sender .acked + x < end → t .turn ≡ d .history .turns
         → OnItsWayOf (record { start = g .start; used = g .used; end = end; repeats = repeats; t = t }) (d .sender .acked + x) onward
@@ -187,26 +181,34 @@ module _ {terms : Terms} {d : Direction} (v : Tried terms d) where
       → (rest : List AckFrame) → Each (Answers (d .receiver .at .expected) (g .t)) rest
       → (ready : Bool) (number : ℕ) → ready ≡ true → number ≡ d .receiver .at .expected
       → Tried terms (heardTo (resting rest) (onAck (d .terms) (d .sender) ready number))
-  unfolding onAck
   heard-new few g old b a rest all ready number r e =
-      let w = b .window in
-      let x = distance-used g b number e in
-      by-eq P (d .sender .length) 0 (λ z. absurd (omega (arith, b .current .some))) λ _.
-      by-lt P 0 (d .sender .hold) (λ h. absurd (omega (arith, v .steady .hold′))) λ _.
-      by-eq P (distance (d .sender) number) 0 (λ z. by P ready (λ _. unmoved rest (same (omega arith))) λ f. absurd (true≢false (sym r ∙ f))) λ far.
-      by-lt P (d .sender .high) (d .sender .acked + distance (d .sender) number) (λ h. absurd (omega arith)) λ _.
-      by-eq P (d .sender .acked + distance (d .sender) number) (framesOf (d .sender .length))
-      (λ y. finished-tried few g old b a rest all (distance (d .sender) number) (heldFor (d .terms) ready) (rw r) x (sym x ∙ y))
-      λ y. acknowledged-tried few g old b a rest all (distance (d .sender) number) (heldFor (d .terms) ready) (rw r) x (omega arith) (λ z. y (x ∙ z))
+      by-eq P x 0 {x = 0} {y = 0} (λ none. ignored-tried rest (same none) ready number r (λ k. omega arith)) λ far.
+      by-eq P (d .sender .acked + x) (framesOf (d .sender .length)) {x = 0} {y = 0}
+      (λ y. rw (onAck-last (d .terms) (d .sender) ready number (acks far) y) (finished-tried few g old b a rest all x (heldFor (d .terms) ready) (rw r) reached (sym reached ∙ y)))
+      λ y. rw (onAck-part (d .terms) (d .sender) ready number (acks far) y) (acknowledged-tried few g old b a rest all x (heldFor (d .terms) ready) (rw r) reached (acks far .some) (λ z. y (reached ∙ z)))
     where
-      P : Heard → Type 0
-      P y = Tried terms (heardTo (resting rest) y)
+      P : ℕ → Type 0
+      P _ = Tried terms (heardTo (resting rest) (onAck (d .terms) (d .sender) ready number))
+
+      x : ℕ
+      x = distance (d .sender) number
+
+      reached : d .sender .acked + x ≡ g .used
+      reached = used-reached g b number e
 
       -- nothing more is used: the try lost a frame
-      same : g .used ≡ d .sender .acked → Stage (resting rest)
-      same z =
+      same : x ≡ 0 → Stage (resting rest)
+      same none =
           let w = b .window in
+          let y = reached in
           answered g 0 b (record { over = a .over; link′ = a .link′; acks′ = risen all; due = a .due; asker = a .asker; whole = λ s. let u = a .whole s .0 in absurd (omega arith) })
+
+      -- more is used: it acknowledges that
+      acks : (x ≡ 0 → ⊥) → Acknowledges (d .sender) number
+      acks far =
+          let w = b .window in
+          let y = reached in
+          record { counts = record { sending = b .current .some; free = v .steady .hold′ }; some = omega arith; within = omega arith }
 
   -- ---- the first Ack of the link
 
@@ -216,11 +218,11 @@ module _ {terms : Terms} {d : Direction} (v : Tried terms d) where
     shows-new : (g : Ghosts) → BlockOf g d → AnsweredOf g 0 d → Each (Answers (d .receiver .at .expected) (g .t)) (f ∷ l) → First f l
 
   first : {f : AckFrame} {l : List AckFrame} → d .acks ≡ f ∷ l → Stage d → First f l
-  first {f} {l} e (quiet t q) = go (subst (Each (Says (d .receiver .at .expected))) e (q .acks′))
+  first {f} {l} e (vacant t q) = go (subst (Each (Says (d .receiver .at .expected))) e (q .acks′))
     where
       go : Each (Says (d .receiver .at .expected)) (f ∷ l) → First f l
       go (each p r) =
-          shows-old (quiet t (record { nothing = q .nothing; link′ = q .link′; acks′ = r; due = q .due }))
+          shows-old (vacant t (record { nothing = q .nothing; link′ = q .link′; acks′ = r; due = q .due }))
           (record { ready = p .ready; number′ = p .number′ ∙ sym (q .nothing .oldest′) })
   first {f} {l} e (onItsWay g from b o) = go (subst (Each (Says (d .sender .oldest))) e (o .acks′))
     where

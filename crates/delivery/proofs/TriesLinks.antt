@@ -8,11 +8,11 @@ use Rattle.delivery.specs.System.{Try, losing}
 use Rattle.delivery.proofs.Core.{DataFrame, AckFrame, Direction, withAcks}
 use Rattle.sender.specs.declared.Terms.{Terms}
 use Rattle.delivery.proofs.Count.{Spared, spared-more, losers-more}
-use Rattle.delivery.proofs.Tries.{Sends, Row, Left, Line, Says, Answers, Each, Rises, Ghosts, Block, PaceOf, Stage}
+use Rattle.delivery.proofs.Tries.{Sends, Row, Leftover, Line, Says, Answers, Each, Rises, Ghosts, Block, PaceOf, Stage}
 use Rattle.delivery.proofs.Tries.Pace.{sending, awaiting}
-use Rattle.delivery.proofs.Tries.Stage.{quiet, onItsWay, answered}
+use Rattle.delivery.proofs.Tries.Stage.{vacant, onItsWay, answered}
 use Rattle.delivery.proofs.Tries.Row.{over, frame}
-use Rattle.delivery.proofs.Tries.Left.{none, one}
+use Rattle.delivery.proofs.Tries.Leftover.{none, one}
 use Rattle.delivery.proofs.Tries.Line.{alone, behind}
 use Rattle.delivery.proofs.Tries.Each.{none as noAcks, each}
 use Rattle.delivery.proofs.Tries.Rises.{risen, rising}
@@ -63,7 +63,7 @@ module _ {start end : ℕ} {t : Try} where
     line-more s (behind e h r) = behind e h (row-more s r)
 
   -- what is left stands before an empty row
-  pub left-line : {spared : Type 0} {next x used acked : ℕ} {t′ : Try} {l : List DataFrame} → used ≡ acked → Left x t′ l
+  pub left-line : {spared : Type 0} {next x used acked : ℕ} {t′ : Try} {l : List DataFrame} → used ≡ acked → Leftover x t′ l
       → Line start end t spared next next used acked x l
   left-line {next} e none = alone (over {from = next} (omega arith) (λ _. refl))
   left-line {next} e (one a b) = behind e a (over {from = next} (omega arith) (λ _. refl))
@@ -102,12 +102,12 @@ block-lost {g = g} {losses = losses} l b =
       window = b .window;
       oldest′ = b .oldest′;
       expected′ = b .expected′;
-      tally = record { counts = y .counts; lost = omega arith; handed = y .handed };
+      tally = record { counts = y .counts; losing = omega arith; handed = y .handed };
     }
 
 -- a stage whose losses are one more, with the links as they are
 pub stage-lost : {d : Direction} (l : Try) → Stage d → Stage (withAcks d (d .acks) (losing (d .history) l))
-stage-lost l (quiet t q) = quiet t q
+stage-lost l (vacant t q) = vacant t q
 stage-lost {d} l (answered g old b a) =
     answered g old (block-lost l b)
     (record { over = a .over; link′ = a .link′; acks′ = a .acks′; due = a .due; asker = a .asker; whole = λ s. a .whole (spared-more (g .t) l (d .history .losses) s) })

@@ -12,28 +12,30 @@ use lib.Seq.{getD-at}
 use borrow.Author.Tests.{eqb-true, eqb-false, eq-eqb, ne-eqb}
 use Rattle.laws.specs.If.{if_then_else_}
 use Rattle.laws.proofs.Branches.{or-on, or-on′, or-off}
-use Rattle.laws.proofs.Cases.{by-not, by-lt, by-le, by-eq}
-use Rattle.delivery.proofs.Mod16.{row-shown}
+use Rattle.laws.proofs.Cases.{by-le, by-eq}
 use Rattle.telegram.specs.Cutting.{framesOf, asksAt}
-use Rattle.sender.specs.Sending.{idle, accepted, offered, again, later, advanced, passed, frameDue, firstNumber, handed}
+use Rattle.sender.specs.Sending.{accepted, offered, again, later, advanced, passed, handed}
 use Rattle.sender.specs.declared.Terms.{Terms}
 use Rattle.sender.specs.declared.Sender.{Sender}
 use Rattle.sender.specs.declared.Offered.{Offered}
 use Rattle.sender.specs.declared.Passed.{Passed}
 use Rattle.sender.specs.declared.Handed.{Handed}
+use Rattle.sender.proofs.Numbers.{number-true}
+use Rattle.sender.proofs.Offers.{OfferCase, unfinished, no-bytes, too-long, accepts, offerCase}
+use Rattle.sender.proofs.Time.{TimeCase, no-wait, runs-on, wait-used-up, sends-again, timeCase, passed-quiet}
+use Rattle.sender.proofs.Frames.{FrameCase, none-due, other-length, frame-out, frameCase}
 use Rattle.channel.specs.declared.Answer.the-variants.{Good}
-use Rattle.delivery.specs.System.{Try, accepting, told, lent}
+use Rattle.delivery.specs.System.{Try, accepting, answerNoted, lent}
 use Rattle.delivery.specs.System.Side.{near}
 use Rattle.delivery.specs.Claim.{FewLosses, framesFor}
 use Rattle.delivery.proofs.Core.{Direction, withSending, withFrame, offeredTo, passedTo, handedTo, frameNow, tryNow}
-use Rattle.delivery.proofs.SendingKeeps.{frame-due}
 use Rattle.delivery.proofs.Count.{Spared, nextTry, losers-few, losers-next, frames-of, frames-other}
-use Rattle.delivery.proofs.Tries.{Sends, Row, Says, Each, Due, Ghosts, Tally, Early, Pace, QuietOf, BlockOf, OverOf, PaceOf, LineOf, OnItsWayOf, AnsweredOf, Stage, Steady, Tried}
+use Rattle.delivery.proofs.Tries.{Sends, Row, Says, Each, Due, Ghosts, Tally, Early, Pace, VacantOf, BlockOf, OverOf, PaceOf, LineOf, OnItsWayOf, AnsweredOf, Stage, Steady, Tried}
 use Rattle.delivery.proofs.Tries.Row.{over}
 use Rattle.delivery.proofs.Tries.Line.{alone}
 use Rattle.delivery.proofs.Tries.Each.{none}
 use Rattle.delivery.proofs.Tries.Pace.{sending, awaiting}
-use Rattle.delivery.proofs.Tries.Stage.{quiet, onItsWay, answered}
+use Rattle.delivery.proofs.Tries.Stage.{vacant, onItsWay, answered}
 use Rattle.delivery.proofs.TriesLinks.{line-from, line-none, line-more, left-line}
 
 -- ---- numbers
@@ -63,7 +65,7 @@ pub tally-again : {allowed base end repeats count count′ next acked : ℕ} {t 
 tally-again {t = t} {losses = losses} y lost c n b =
     let l = losers-next t losses lost in
     let h = y .handed in
-    record { counts = c; lost = omega (arith, y .lost); handed = omega arith }
+    record { counts = c; losing = omega (arith, y .losing); handed = omega arith }
 
 -- the try behind this one, of the same block
 abbrev pub againTried : Ghosts → Ghosts
@@ -77,7 +79,7 @@ module _ {terms : Terms} {d : Direction} (v : Tried terms d) where
   -- ---- time
 
   -- the sender changed, with nothing said that the history counts
-  sender-tried : (s : Sender) → s .hold ≡ 0 → Stage (withSending d s true (told near (d .history) Good)) → Tried terms (withSending d s true (told near (d .history) Good))
+  sender-tried : (s : Sender) → s .hold ≡ 0 → Stage (withSending d s true (answerNoted near (d .history) Good)) → Tried terms (withSending d s true (answerNoted near (d .history) Good))
   sender-tried s hold stage = record { steady = steady-with (s .hold) hold; room = v .room; bounded = v .bounded; stage = stage }
 
   -- with the links empty and no Ack due, the try has lost a frame: one on its way, or the Ack
@@ -95,7 +97,7 @@ module _ {terms : Terms} {d : Direction} (v : Tried terms d) where
   -- then the block is sent again
   again-tried : (g : Ghosts) (pause gap : ℕ) → pause ≡ 0 → BlockOf g d → OverOf g d → (Spared (g .t) (d .history .losses) → ⊥)
       → d .frames ≡ [] → d .acks ≡ [] → d .receiver .ack .due ≡ false
-      → Tried terms (withSending d (again (d .sender) pause gap) true (told near (d .history) Good))
+      → Tried terms (withSending d (again (d .sender) pause gap) true (answerNoted near (d .history) Good))
   again-tried g pause gap p b o lost f a u =
       let w = b .window in
       let n = d .sender .acked in
@@ -122,31 +124,38 @@ module _ {terms : Terms} {d : Direction} (v : Tried terms d) where
       (inTime : 1 ≤ d .sender .wait → d .sender .wait ≤ n → (d .frames ≡ []) × (d .acks ≡ []) × (d .receiver .ack .due ≡ false)) where
     -- the timers with less
     abbrev less : Direction
-    less = withSending d (later (d .sender) n) true (told near (d .history) Good)
+    less = withSending d (later (d .sender) n) true (answerNoted near (d .history) Good)
 
     less-tried : Stage less → Tried terms less
     less-tried = sender-tried (later (d .sender) n) (let h = v .steady .hold′ in omega arith)
 
     -- no Ack is awaited
     unawaited : d .sender .wait ≡ 0 → Stage less → Tried terms (passedTo d (passed (d .terms) (d .sender) n))
-    unfolding passed
-    unawaited w stage = by-eq (λ (x : Passed). Tried terms (passedTo d x)) (d .sender .wait) 0 (λ _. less-tried stage) λ x. absurd (x w)
+    unawaited w stage = rw (passed-quiet (d .terms) (d .sender) n (λ r. omega arith)) (less-tried stage)
 
     -- an Ack is awaited: the timers with less, or the try lost a frame
     awaited : (g : Ghosts) → BlockOf g d → OverOf g d → (d .frames ≡ [] → d .acks ≡ [] → d .receiver .ack .due ≡ false → Spared (g .t) (d .history .losses) → ⊥)
         → (OverOf g less → Stage less) → Tried terms (passedTo d (passed (d .terms) (d .sender) n))
-    unfolding passed
-    awaited g b o lost stage =
-        by-eq P (d .sender .wait) 0 (λ w. absurd (omega (arith, o .wait′))) λ _.
-        by-lt P n (d .sender .wait) (λ l. less-tried (stage (record { wait′ = omega arith; next′ = o .next′; turn = o .turn }))) λ l.
-        let m = inTime (o .wait′) l in
-        let x = lost (m .0) (m .1) (m .2) in
-        by-le P (d .terms .repeats) (d .sender .count)
-        (λ c. absurd (omega (arith, losers-next (g .t) (d .history .losses) x, losers-few (d .terms .repeats) (nextTry (g .t)) (d .history .losses) few, b .tally .counts, b .tally .lost)))
-        λ _. again-tried g (d .sender .hold - n) (d .sender .gap - n) (let h = v .steady .hold′ in omega arith) b o x (m .0) (m .1) (m .2)
+    awaited g b o lost stage = go (timeCase (d .terms) (d .sender) n)
       where
-        P : Passed → Type 0
-        P x = Tried terms (passedTo d x)
+        -- a wait that runs out finds the links empty, and the try has lost a frame
+        empty : d .sender .wait ≤ n → (d .frames ≡ []) × (d .acks ≡ []) × (d .receiver .ack .due ≡ false)
+        empty out = inTime (o .wait′) out
+
+        loses : d .sender .wait ≤ n → Spared (g .t) (d .history .losses) → ⊥
+        loses out = let e = empty out in lost (e .0) (e .1) (e .2)
+
+        go : {x : Passed} → TimeCase (d .terms) (d .sender) n x → Tried terms (passedTo d x)
+        go (no-wait w) = absurd (omega (arith, o .wait′))
+        go (runs-on h) = less-tried (stage (record { wait′ = omega arith; next′ = o .next′; turn = o .turn }))
+        go (wait-used-up r h) =
+            let lose = losers-next (g .t) (d .history .losses) (loses (r .over)) in
+            let most = losers-few (d .terms .repeats) (nextTry (g .t)) (d .history .losses) few in
+            absurd (omega (arith, b .tally .counts, b .tally .losing))
+        go (sends-again r h) =
+            let e = empty (r .over) in
+            let hold = v .steady .hold′ in
+            again-tried g (d .sender .hold - n) (d .sender .gap - n) (omega arith) b o (loses (r .over)) (e .0) (e .1) (e .2)
 
     pub pass-tried : Tried terms (passedTo d (passed (d .terms) (d .sender) n))
     pass-tried = go (v .stage)
@@ -155,10 +164,10 @@ module _ {terms : Terms} {d : Direction} (v : Tried terms d) where
         paced g from b o p = onItsWay g from b (record { least = o .least; reached = o .reached; pace = p; link′ = o .link′; acks′ = o .acks′; due = o .due })
 
         go : Stage d → Tried terms (passedTo d (passed (d .terms) (d .sender) n))
-        go (quiet t q) =
+        go (vacant t q) =
             let o = q .nothing in
             unawaited (o .wait′)
-            (quiet t (record {
+            (vacant t (record {
               nothing = record { counted = o .counted; none′ = o .none′; wait′ = omega (arith, o .wait′); oldest′ = o .oldest′; small = o .small; frames′ = o .frames′ };
               link′ = q .link′;
               acks′ = q .acks′;
@@ -194,10 +203,9 @@ module _ {terms : Terms} {d : Direction} (v : Tried terms d) where
         asks-end (d .terms .block) (framesOf (d .sender .length)) (g .t .block) (g .end) (d .sender .next) (v .steady .fair .least) (w .ends) (omega arith) (p .next′)
 
     next-sends : Sends (g .start) (g .end) (g .t) (d .sender .next) (frameNow d)
-    unfolding firstNumber
     next-sends =
         record {
-          number = rw (b .oldest′) (row-shown (g .start) (d .sender .acked) (d .sender .next));
+          number = number-true (d .sender) (g .start) (b .oldest′) (d .sender .next);
           asks = ap (λ n. asksAt (d .terms .block) n (d .sender .next)) same ∙ next-asks;
           try = next-try;
         }
@@ -234,7 +242,7 @@ module _ {terms : Terms} {d : Direction} (v : Tried terms d) where
                 window = omega arith;
                 oldest′ = b .oldest′;
                 expected′ = b .expected′;
-                tally = record { counts = y .counts; lost = y .lost; handed = omega (arith, y .handed, c) };
+                tally = record { counts = y .counts; losing = y .losing; handed = omega (arith, y .handed, c) };
               })
               (record {
                 least = o .least;
@@ -247,27 +255,27 @@ module _ {terms : Terms} {d : Direction} (v : Tried terms d) where
         }
 
   pub hand-tried : Tried terms (handedTo d (handed (d .terms) (d .sender) (lent (d .history))))
-  unfolding handed
-  hand-tried =
-      by-not P (frameDue (d .sender)) (λ _. v) λ due.
-      by-not P (eqb (length (lent (d .history))) (d .sender .length)) (λ _. v) λ same.
-      go (eqb-true _ _ same) (frame-due (d .sender) due .0) (frame-due (d .sender) due .1) (v .stage)
+  hand-tried = go (frameCase (d .terms) (d .sender) (lent (d .history)))
     where
-      P : Handed → Type 0
-      P x = Tried terms (handedTo d x)
-
-      go : length (lent (d .history)) ≡ d .sender .length → 1 ≤ d .sender .length → d .sender .wait ≡ 0 → Stage d → Tried terms (withFrame d (advanced (d .terms) (d .sender)))
-      go same some still (quiet t q) = absurd (omega (arith, q .nothing .none′))
-      go same some still (answered g old b a) = absurd (omega (arith, a .over .wait′))
-      go same some still (onItsWay g from b o) = by-pace (o .pace)
+      -- a frame is due only of a block on its way, with no Ack awaited
+      due-tried : length (lent (d .history)) ≡ d .sender .length → 0 < d .sender .length → d .sender .wait ≡ 0 → Stage d
+          → Tried terms (withFrame d (advanced (d .terms) (d .sender)))
+      due-tried same some unawaited (vacant t q) = absurd (omega (arith, q .nothing .none′))
+      due-tried same some unawaited (answered g old b a) = absurd (omega (arith, a .over .wait′))
+      due-tried same some unawaited (onItsWay g from b o) = by-pace (o .pace)
         where
           by-pace : PaceOf g from d → Tried terms (withFrame d (advanced (d .terms) (d .sender)))
           by-pace (sending p) = handed-tried g from b o p same
           by-pace (awaiting p h) = absurd (omega (arith, p .wait′))
 
+      go : {x : Handed} → FrameCase (d .terms) (d .sender) (lent (d .history)) x → Tried terms (handedTo d x)
+      go (none-due _) = v
+      go (other-length _ _) = v
+      go (frame-out due same) = due-tried same (due .sending) (due .waited) (v .stage)
+
   -- ---- a message offered
 
-  accepted-tried : (m : List ℕ) → 1 ≤ length m → (t : Try) → QuietOf t d → Tried terms (withSending d (accepted (d .sender) (length m)) (d .live) (accepting (d .history) m))
+  accepted-tried : (m : List ℕ) → 1 ≤ length m → (t : Try) → VacantOf t d → Tried terms (withSending d (accepted (d .sender) (length m)) (d .live) (accepting (d .history) m))
   unfolding framesOf
   accepted-tried m some t q =
       let f = v .steady .fair in
@@ -301,16 +309,16 @@ module _ {terms : Terms} {d : Direction} (v : Tried terms d) where
       }
 
   pub offer-tried : (limit : ℕ) (m : List ℕ) → Tried terms (offeredTo d m (offered limit (d .sender) (length m)))
-  unfolding offered
-  offer-tried limit m =
-      by-not P (idle (d .sender)) (λ _. v) λ unsent.
-      by-eq P (length m) 0 (λ _. v) λ some.
-      by-lt P limit (length m) (λ _. v) λ _. go (eqb-true _ _ unsent) (omega arith) (v .stage)
+  offer-tried limit m = go (offerCase limit (d .sender) (length m))
     where
-      P : Offered → Type 0
-      P x = Tried terms (offeredTo d m x)
+      -- no message is in sending only between two of them
+      begun-tried : d .sender .length ≡ 0 → 0 < length m → Stage d → Tried terms (withSending d (accepted (d .sender) (length m)) (d .live) (accepting (d .history) m))
+      begun-tried unsent some (vacant t q) = accepted-tried m some t q
+      begun-tried unsent some (onItsWay g from b o) = absurd (omega (arith, b .current .some))
+      begun-tried unsent some (answered g old b a) = absurd (omega (arith, b .current .some))
 
-      go : d .sender .length ≡ 0 → 1 ≤ length m → Stage d → Tried terms (withSending d (accepted (d .sender) (length m)) (d .live) (accepting (d .history) m))
-      go unsent some (quiet t q) = accepted-tried m some t q
-      go unsent some (onItsWay g from b o) = absurd (omega (arith, b .current .some))
-      go unsent some (answered g old b a) = absurd (omega (arith, b .current .some))
+      go : {x : Offered} → OfferCase limit (d .sender) (length m) x → Tried terms (offeredTo d m x)
+      go (unfinished _) = v
+      go (no-bytes _ _) = v
+      go (too-long _ _) = v
+      go (accepts t) = begun-tried (t .free) (t .some) (v .stage)

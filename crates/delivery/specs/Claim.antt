@@ -11,7 +11,7 @@ use Rattle.telegram.specs.Kinds.{sorted}
 use Rattle.telegram.specs.Cutting.{framesOf}
 use Rattle.sender.specs.Sending.{fresh as freshSender}
 use Rattle.receiver.specs.Receiving.{waiting, fresh as freshReceiver}
-use Rattle.channel.specs.Opened.{quiet, testDue, due as dueOf}
+use Rattle.channel.specs.Opened.{noneOut, testDue, due as dueOf}
 use Rattle.delivery.specs.System.{System, End, Flying, Try, History, Call, endOf, linkTo, other, lent, isData, step, run}
 use Rattle.delivery.specs.System.Side.{near, far}
 use Rattle.delivery.specs.System.Fate.{goes, stays, lost}
@@ -35,15 +35,15 @@ Along limit P s (c ∷ cs) = P s c × Along limit P (step limit s c) cs
 pub record FreshEnd (e : End) : Type 0 where
   pub sender : e .channel .sender ≡ freshSender
   pub receiver : e .channel .receiver ≡ freshReceiver
-  pub tests : e .channel .tests ≡ quiet (e .channel .tests .interval)
+  pub tests : e .channel .tests ≡ noneOut (e .channel .tests .interval)
   pub accept : e .channel .accept ≡ false
   pub t1 : 1 ≤ e .channel .parameters .terms .t1
-  pub pause : 1 ≤ e .channel .parameters .terms .pause
+  pub «t_wait» : 1 ≤ e .channel .parameters .terms .«t_wait»
   pub live : e .live ≡ true
 
 -- nothing has happened yet
 abbrev pub noHistory : Try → History
-noHistory t = record { accepted = []; handedOut = []; done = 0; lost = false; frames = []; turns = 0; ackTry = t; losses = [] }
+noHistory t = record { accepted = []; handedOut = []; done = 0; givenUp = false; frames = []; turns = 0; ackTry = t; losses = [] }
 
 -- "two fresh ends of one connection, block size 1 to 15, both links empty"
 pub record Fresh (s : System) : Type 0 where
@@ -86,7 +86,7 @@ pub record Delivered (limit : ℕ) (s : System) : Type 0 where
       (i : ℕ) → i < s .history .done →
       (i < length (s .history .handedOut)) ⊎ ((length (s .history .handedOut) ≡ i) × (step limit s (takes far) .history .handedOut ≡ s .history .handedOut ++ (getD (s .history .accepted) i [] ∷ [])))
   -- "given up": 8 was answered before the last message accepted was done
-  pub givenUp : s .history .lost ≡ true → (length (s .history .accepted) ≡ s .history .done + 1) × WholeOrNever limit s
+  pub givenUp : s .history .givenUp ≡ true → (length (s .history .accepted) ≡ s .history .done + 1) × WholeOrNever limit s
   -- the receiving end stays open
   pub open′ : s .far .live ≡ true
 

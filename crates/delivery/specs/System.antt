@@ -6,7 +6,7 @@ use mathlib.Core.List.{List, [], _∷_, _++_}
 use lib.ListN.{length, getD, drop}
 use lib.Dec.{eqb}
 use Rattle.laws.specs.If.{if_then_else_}
-use Rattle.telegram.specs.Outgoing.{sent}
+use Rattle.telegram.specs.Outgoing.{bytesOf}
 use Rattle.telegram.specs.Kinds.{sorted}
 use Rattle.telegram.specs.declared.kinds.Telegram.{Telegram}
 use Rattle.telegram.specs.declared.kinds.Telegram.the-variants.{Data, Ack, Test, Break, Disconnect, Setup, Accept, Malformed}
@@ -45,7 +45,7 @@ pub record History : Type 0 where
   -- how many were reported done by the sending end
   pub done : ℕ
   -- the sending end answered 8: the message in sending is given up
-  pub lost : Bool
+  pub givenUp : Bool
   -- the try of each data frame handed over
   pub frames : List Try
   -- how many of those were frames with AR
@@ -81,7 +81,7 @@ pub data Call : Type 0 where
 
 -- ---- parts of a system
 
--- the end on a side, and a system with another end there
+-- the end on a side
 abbrev pub endOf : Side → System → End
 endOf near s = s .near
 endOf far s = s .far
@@ -91,7 +91,7 @@ abbrev pub withEnd : Side → System → End → System
 withEnd near s e = record { near = e; far = s .far; forward = s .forward; backward = s .backward; history = s .history }
 withEnd far s e = record { near = s .near; far = e; forward = s .forward; backward = s .backward; history = s .history }
 
--- the frames on their way to a side, and a system with others there
+-- the frames on their way to a side
 abbrev pub linkTo : Side → System → List Flying
 linkTo near s = s .backward
 linkTo far s = s .forward
@@ -117,31 +117,31 @@ lent h = getD (h .accepted) (length (h .accepted) - 1) []
 -- ---- what the history notes
 
 -- a history with other messages
-abbrev pub withMessages : History → (accepted handedOut : List (List ℕ)) → (done : ℕ) → (lost : Bool) → History
+abbrev pub withMessages : History → (accepted handedOut : List (List ℕ)) → (done : ℕ) → (givenUp : Bool) → History
 withMessages h a o d l =
-    record { accepted = a; handedOut = o; done = d; lost = l; frames = h .frames; turns = h .turns; ackTry = h .ackTry; losses = h .losses }
+    record { accepted = a; handedOut = o; done = d; givenUp = l; frames = h .frames; turns = h .turns; ackTry = h .ackTry; losses = h .losses }
 
 -- a history with other tries
 abbrev pub withTries : History → (frames : List Try) → (turns : ℕ) → (ackTry : Try) → (losses : List Try) → History
 withTries h f n t l =
-    record { accepted = h .accepted; handedOut = h .handedOut; done = h .done; lost = h .lost; frames = f; turns = n; ackTry = t; losses = l }
+    record { accepted = h .accepted; handedOut = h .handedOut; done = h .done; givenUp = h .givenUp; frames = f; turns = n; ackTry = t; losses = l }
 
 -- a message accepted
 abbrev pub accepting : History → List ℕ → History
-accepting h m = withMessages h (h .accepted ++ (m ∷ [])) (h .handedOut) (h .done) (h .lost)
+accepting h m = withMessages h (h .accepted ++ (m ∷ [])) (h .handedOut) (h .done) (h .givenUp)
 
 -- messages handed out
 abbrev pub handing : History → List (List ℕ) → History
-handing h ms = withMessages h (h .accepted) (h .handedOut ++ ms) (h .done) (h .lost)
+handing h ms = withMessages h (h .accepted) (h .handedOut ++ ms) (h .done) (h .givenUp)
 
 -- the sending end's answer: done, or 8
-abbrev pub noted : Side → History → (done lost : Bool) → History
-noted near h d l = withMessages h (h .accepted) (h .handedOut) (if d then h .done + 1 else h .done) (h .lost || l)
+abbrev pub noted : Side → History → (done givenUp : Bool) → History
+noted near h d l = withMessages h (h .accepted) (h .handedOut) (if d then h .done + 1 else h .done) (h .givenUp || l)
 noted far h d l = h
 
 -- the same of a channel's answer
-abbrev pub told : Side → History → Answer → History
-told side h a = noted side h (said a .done) (eqb (said a .number) 8)
+abbrev pub answerNoted : Side → History → Answer → History
+answerNoted side h a = noted side h (said a .done) (eqb (said a .number) 8)
 
 -- the telegram is data
 abbrev pub isData : Telegram → Bool
@@ -188,14 +188,14 @@ losing h t = withTries h (h .frames) (h .turns) (h .ackTry) (t ∷ h .losses)
 -- ---- the calls
 
 -- what a call leaves of an end; 8 and a disconnect close it
-abbrev pub left : Channel → List ℕ → Answer → End
-left c b a = record { channel = c; buffer = b; live = not (closes a) }
+abbrev pub endAfter : Channel → List ℕ → Answer → End
+endAfter c b a = record { channel = c; buffer = b; live = not (closes a) }
 
 -- send, at the sending end
 unfoldable pub sending : (limit : ℕ) → System → List ℕ → System
 sending limit s m =
     (let r = sentBy limit (s .near .channel) (length m) in
-    let t = withEnd near s (left (r .channel) (s .near .buffer) (r .answer)) in
+    let t = withEnd near s (endAfter (r .channel) (s .near .buffer) (r .answer)) in
     if eqb (said (r .answer) .number) 0 then withHistory t (accepting (s .history) m) else t)
 
 -- what a take shows
@@ -217,16 +217,16 @@ unfoldable pub timing : Side → System → ℕ → System
 timing side s n =
     (let e = endOf side s in
     let r = elapsed (e .channel) n in
-    withHistory (withEnd side s (left (r .channel) (e .buffer) (r .answer))) (told side (s .history) (r .answer)))
+    withHistory (withEnd side s (endAfter (r .channel) (e .buffer) (r .answer))) (answerNoted side (s .history) (r .answer)))
 
 -- what is due: a frame handed over goes last into the link to the other end
 unfoldable pub asking : Side → System → System
 asking side s =
     (let e = endOf side s in
     let d = dueOf (e .channel) (lent (s .history)) in
-    let k = sorted (sent (d .payload)) .kind in
-    let f : Flying = record { bytes = sent (d .payload); try = tryOf (s .history) (e .channel) k } in
-    let t = withEnd side s (left (d .channel) (e .buffer) (d .answer)) in
+    let k = sorted (bytesOf (d .payload)) .kind in
+    let f : Flying = record { bytes = bytesOf (d .payload); try = tryOf (s .history) (e .channel) k } in
+    let t = withEnd side s (endAfter (d .channel) (e .buffer) (d .answer)) in
     if d .given then withHistory (withLinkTo (other side) t (linkTo (other side) s ++ (f ∷ []))) (counted (s .history) (e .channel) k) else t)
 
 -- a frame arrives at an end, lent its buffer
@@ -236,8 +236,8 @@ arriving limit side s f =
     let k = sorted (f .bytes) .kind in
     let r = arrived limit (e .channel) k (drop 1 (f .bytes)) (length (e .buffer)) in
     let b = bufferedBy limit (e .channel) k (drop 1 (f .bytes)) (e .buffer) in
-    withHistory (withEnd side s (left (r .channel) b (r .answer)))
-    (asked side (told side (s .history) (r .answer)) k (f .try)))
+    withHistory (withEnd side s (endAfter (r .channel) b (r .answer)))
+    (asked side (answerNoted side (s .history) (r .answer)) k (f .try)))
 
 -- at an end that is closed nothing more happens
 abbrev pub ifLive : Side → System → System → System

@@ -15,6 +15,9 @@ use receiver::Taking;
 use sender::Terms;
 use telegram::kinds;
 use telegram::payload::Payload;
+use text::output::Output;
+use text::reading;
+use text::writing;
 
 const GAP: u32 = 50;
 
@@ -35,6 +38,8 @@ struct Ends {
     backward: Link,
     // The length of the message last accepted.
     length: usize,
+    // How far the line of the present call is written.
+    at: usize,
 }
 
 fn main() {
@@ -43,7 +48,8 @@ fn main() {
     let mut message = [0; 120];
     count_up(&mut message);
     let mut buffer = [0; 120];
-    letters(&text[..n], &message, &mut buffer);
+    let mut line = [0; 512];
+    letters(&text[..n], &message, &mut buffer, &mut line);
 }
 
 // The bytes 0, 1, 2 and so on.
@@ -55,43 +61,109 @@ fn count_up(bytes: &mut [u8]) {
     }
 }
 
-fn letters(text: &[u8], message: &[u8], buffer: &mut [u8]) {
+// Runs the letters one by one, until a line cannot be written.
+fn letters(text: &[u8], message: &[u8], buffer: &mut [u8], line: &mut [u8]) {
     let mut ends = fresh();
+    let mut output = Output::fresh();
     let mut i = 0;
     while i < text.len() {
-        ends = letter(ends, text[i], message, buffer);
+        let c = text[i];
         i += 1;
+        ends = letter(ends, c, message, buffer, line);
+        output = say(output, line, ends.at);
+        if output.failed {
+            return;
+        }
     }
 }
 
-fn letter(ends: Ends, c: u8, message: &[u8], buffer: &mut [u8]) -> Ends {
+fn say(output: Output, line: &[u8], end: usize) -> Output {
+    output.say(reading::part(line, 0, end))
+}
+
+// A call, and its line in line.
+fn letter(ends: Ends, c: u8, message: &[u8], buffer: &mut [u8], line: &mut [u8]) -> Ends {
     if c == b'\n' {
-        say(b"\n");
-        return ends;
+        return ends.begun().with(line, b"\n");
     }
-    say(&[c]);
-    let next = call(ends, c, message, buffer);
-    say(b"\n");
-    next
+    lettered(ends.begun().with(line, &[c]), c, message, buffer, line)
 }
 
-fn call(ends: Ends, c: u8, message: &[u8], buffer: &mut [u8]) -> Ends {
+fn lettered(ends: Ends, c: u8, message: &[u8], buffer: &mut [u8], line: &mut [u8]) -> Ends {
+    call(ends, c, message, buffer, line).with(line, b"\n")
+}
+
+fn call(ends: Ends, c: u8, message: &[u8], buffer: &mut [u8], line: &mut [u8]) -> Ends {
     match c {
-        b's' => offer(ends, 5),
-        b'm' => offer(ends, 120),
-        b'd' => ask_near(ends, message),
-        b'D' => ask_far(ends),
-        b'a' => arrive_far(ends, false, buffer),
-        b'r' => arrive_far(ends, true, buffer),
+        b's' => offer(ends, 5, line),
+        b'm' => offer(ends, 120, line),
+        b'd' => ask_near(ends, message, line),
+        b'D' => ask_far(ends, line),
+        b'a' => arrive_far(ends, false, buffer, line),
+        b'r' => arrive_far(ends, true, buffer, line),
         b'x' => lose_forward(ends),
-        b'A' => arrive_near(ends, false, buffer),
-        b'R' => arrive_near(ends, true, buffer),
+        b'A' => arrive_near(ends, false, buffer, line),
+        b'R' => arrive_near(ends, true, buffer, line),
         b'X' => lose_backward(ends),
-        b'g' => pass(ends, GAP),
-        b'w' => pass(ends, WAIT),
-        b'p' => pass(ends, HOLD),
-        b't' => take(ends, buffer),
-        _ => fresh(),
+        b'g' => pass(ends, GAP, line),
+        b'w' => pass(ends, WAIT, line),
+        b'p' => pass(ends, HOLD, line),
+        b't' => take(ends, buffer, line),
+        _ => ends.anew(),
+    }
+}
+
+impl Ends {
+    // Nothing written of the line.
+    fn begun(mut self) -> Ends {
+        self.at = 0;
+        self
+    }
+
+    // Two fresh ends, in the same line.
+    fn anew(self) -> Ends {
+        let mut ends = fresh();
+        ends.at = self.at;
+        ends
+    }
+
+    fn with(mut self, line: &mut [u8], text: &[u8]) -> Ends {
+        self.at = writing::bytes(line, self.at, text);
+        self
+    }
+
+    fn with_bytes(mut self, line: &mut [u8], bytes: &[u8]) -> Ends {
+        self.at = writing::pairs(line, self.at, bytes);
+        self
+    }
+
+    fn with_payload(self, line: &mut [u8], payload: Payload) -> Ends {
+        let all = payload.bytes;
+        self.with_bytes(line, reading::part(&all, 0, payload.len))
+    }
+
+    // A frame goes into a link.
+    fn sending_forward(mut self, line: &mut [u8], payload: Payload) -> Ends {
+        let link = Link {
+            full: true,
+            payload,
+        };
+        self.forward = link;
+        self.with_payload(line, payload)
+    }
+
+    fn sending_backward(mut self, line: &mut [u8], payload: Payload) -> Ends {
+        let link = Link {
+            full: true,
+            payload,
+        };
+        self.backward = link;
+        self.with_payload(line, payload)
+    }
+
+    fn with_answer(mut self, line: &mut [u8], answer: Answer) -> Ends {
+        self.at = tell(line, self.at, answer);
+        self
     }
 }
 
@@ -102,7 +174,7 @@ fn fresh() -> Ends {
             t1: WAIT,
             t3: GAP,
             repeats: 1,
-            pause: HOLD,
+            t_wait: HOLD,
         },
         interval: 0,
         allowed: 0,
@@ -118,6 +190,7 @@ fn fresh() -> Ends {
         forward: empty(),
         backward: empty(),
         length: 0,
+        at: 0,
     }
 }
 
@@ -131,7 +204,7 @@ fn empty() -> Link {
     }
 }
 
-fn offer(mut ends: Ends, len: usize) -> Ends {
+fn offer(mut ends: Ends, len: usize, line: &mut [u8]) -> Ends {
     let near = ends.near;
     let r = near.send(len);
     let answer = r.answer;
@@ -140,53 +213,41 @@ fn offer(mut ends: Ends, len: usize) -> Ends {
     if channel::say(answer).number == 0 {
         ends.length = len;
     }
-    tell(answer);
-    ends
+    ends.with_answer(line, answer)
 }
 
-fn ask_near(mut ends: Ends, message: &[u8]) -> Ends {
+fn ask_near(mut ends: Ends, message: &[u8], line: &mut [u8]) -> Ends {
     let near = ends.near;
-    let d = near.due(front(message, ends.length));
+    let d = near.due(reading::part(message, 0, ends.length));
     let next = d.channel;
     ends.near = next;
     let answer = d.answer;
-    tell(answer);
+    let told = ends.with_answer(line, answer);
     if d.given {
         let payload = d.payload;
-        print(payload);
-        let link = Link {
-            full: true,
-            payload,
-        };
-        ends.forward = link;
+        return told.sending_forward(line, payload);
     }
-    ends
+    told
 }
 
-fn ask_far(mut ends: Ends) -> Ends {
+fn ask_far(mut ends: Ends, line: &mut [u8]) -> Ends {
     let far = ends.far;
     let d = far.due(&[0; 0]);
     let next = d.channel;
     ends.far = next;
     let answer = d.answer;
-    tell(answer);
+    let told = ends.with_answer(line, answer);
     if d.given {
         let payload = d.payload;
-        print(payload);
-        let link = Link {
-            full: true,
-            payload,
-        };
-        ends.backward = link;
+        return told.sending_backward(line, payload);
     }
-    ends
+    told
 }
 
-fn arrive_far(mut ends: Ends, stays: bool, buffer: &mut [u8]) -> Ends {
+fn arrive_far(mut ends: Ends, stays: bool, buffer: &mut [u8], line: &mut [u8]) -> Ends {
     let link = ends.forward;
     if !link.full {
-        say(b" -");
-        return ends;
+        return ends.with(line, b" -");
     }
     let far = ends.far;
     let payload = link.payload;
@@ -198,15 +259,13 @@ fn arrive_far(mut ends: Ends, stays: bool, buffer: &mut [u8]) -> Ends {
         let none = empty();
         ends.forward = none;
     }
-    tell(answer);
-    ends
+    ends.with_answer(line, answer)
 }
 
-fn arrive_near(mut ends: Ends, stays: bool, buffer: &mut [u8]) -> Ends {
+fn arrive_near(mut ends: Ends, stays: bool, buffer: &mut [u8], line: &mut [u8]) -> Ends {
     let link = ends.backward;
     if !link.full {
-        say(b" -");
-        return ends;
+        return ends.with(line, b" -");
     }
     let near = ends.near;
     let payload = link.payload;
@@ -218,30 +277,18 @@ fn arrive_near(mut ends: Ends, stays: bool, buffer: &mut [u8]) -> Ends {
         let none = empty();
         ends.backward = none;
     }
-    tell(answer);
-    ends
+    ends.with_answer(line, answer)
 }
 
 fn arrive(end: Channel, payload: Payload, buffer: &mut [u8]) -> channel::Answered {
     let all = payload.bytes;
-    let telegram = front(&all, payload.len);
-    arrival::arrive(end, kinds::sort(telegram), behind(telegram, 1), buffer)
-}
-
-// The first n elements, or all of fewer.
-fn front(s: &[u8], n: usize) -> &[u8] {
-    if s.len() < n {
-        return s;
-    }
-    &s[..n]
-}
-
-// What stands behind the first n elements, or all of fewer.
-fn behind(s: &[u8], n: usize) -> &[u8] {
-    if n <= s.len() {
-        return &s[n..];
-    }
-    s
+    let telegram = reading::part(&all, 0, payload.len);
+    arrival::arrive(
+        end,
+        kinds::sort(telegram),
+        reading::part(telegram, 1, 8),
+        buffer,
+    )
 }
 
 fn lose_forward(mut ends: Ends) -> Ends {
@@ -254,17 +301,16 @@ fn lose_backward(mut ends: Ends) -> Ends {
     ends
 }
 
-fn pass(mut ends: Ends, tenths: u32) -> Ends {
+fn pass(mut ends: Ends, tenths: u32, line: &mut [u8]) -> Ends {
     let near = ends.near;
     let r = near.elapse(tenths as u64);
     let answer = r.answer;
     let next = r.channel;
     ends.near = next;
-    tell(answer);
-    ends
+    ends.with_answer(line, answer)
 }
 
-fn take(mut ends: Ends, buffer: &mut [u8]) -> Ends {
+fn take(mut ends: Ends, buffer: &[u8], line: &mut [u8]) -> Ends {
     let mut far = ends.far;
     let receiver = far.receiver;
     let complete = receiver.complete;
@@ -275,42 +321,17 @@ fn take(mut ends: Ends, buffer: &mut [u8]) -> Ends {
     ends.far = far;
     let note = t.note;
     match note {
-        Taking::Shown => {
-            bytes(front(buffer, length));
-        }
-        Taking::NoneComplete => say(b" none"),
-        Taking::ShortBuffer => say(b" short"),
+        Taking::Shown => ends.with_bytes(line, reading::part(buffer, 0, length)),
+        Taking::NoneComplete => ends.with(line, b" none"),
+        Taking::ShortBuffer => ends.with(line, b" short"),
     }
-    ends
 }
 
-fn tell(answer: Answer) {
-    say(b" ");
-    io::print_decimal(1, channel::say(answer).number as u64);
+fn tell(line: &mut [u8], at: usize, answer: Answer) -> usize {
+    let at = writing::byte(line, at, b' ');
+    let at = writing::decimal(line, at, channel::say(answer).number as u64);
     if let Answer::Done = answer {
-        say(b" done");
+        return writing::bytes(line, at, b" done");
     }
-}
-
-fn print(payload: Payload) {
-    let all = payload.bytes;
-    bytes(front(&all, payload.len));
-}
-
-fn bytes(s: &[u8]) {
-    let mut i = 0;
-    while i < s.len() {
-        let b = s[i];
-        say(&[b' ', digit(b / 16), digit(b)]);
-        i += 1;
-    }
-}
-
-fn digit(n: u8) -> u8 {
-    let d = n % 16;
-    if d < 10 { 48 + d } else { 55 + d }
-}
-
-fn say(text: &[u8]) {
-    io::write_all(1, text);
+    at
 }

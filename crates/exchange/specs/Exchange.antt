@@ -6,18 +6,19 @@ use lib.ListN.{length, take as firstOf, replicate}
 use lib.Dec.{eqb}
 use Rattle.laws.specs.If.{if_then_else_}
 use Rattle.telegram.specs.Time.{tenthsOf}
-use Rattle.telegram.specs.Outgoing.{sent}
+use Rattle.telegram.specs.Outgoing.{bytesOf}
 use Rattle.telegram.specs.Cutting.{longest}
 use Rattle.settings.specs.Settings.{defaults}
 use Rattle.settings.specs.declared.Settings.{Settings}
+use Rattle.channel.specs.declared.Answer.the-variants.{Good, Done}
+use Rattle.open_end.specs.declared.answers.Answer.the-variants.{Channel}
+use Rattle.open_end.specs.declared.answers.Said.{Said}
+use Rattle.open_end.specs.declared.answers.Told.{Told}
+use Rattle.open_end.specs.Answers.{said}
 use Rattle.connection.specs.declared.Connection.{Connection}
-use Rattle.connection.specs.declared.Said.{Said}
-use Rattle.connection.specs.declared.Told.{Told}
 use Rattle.connection.specs.declared.Answered.{Answered}
 use Rattle.connection.specs.declared.Due.{Due}
 use Rattle.connection.specs.declared.TakeStep.{TakeStep}
-use Rattle.connection.specs.declared.Answer.the-variants.{Good, Done}
-use Rattle.connection.specs.Numbers.{said}
 use Rattle.connection.specs.Record.{closedRecord}
 use Rattle.connection.specs.Calls.{opening, arrived, buffered, elapsed, dueOf, sentBy, takenBy, closed}
 
@@ -50,7 +51,7 @@ silent r b = after (r .told) [] (r .connection) b
 
 -- a frame handed over is put out as its ID, then its bytes
 abbrev pub handed : Due → (b : List ℕ) → After
-handed d b = after (d .told) (if d .given then (d .frame .id ∷ sent (d .frame .payload)) ∷ [] else []) (d .connection) b
+handed d b = after (d .told) (if d .given then (d .frame .id ∷ bytesOf (d .frame .payload)) ∷ [] else []) (d .connection) b
 
 -- a message taken is put out as its bytes, the first part of the lent buffer
 abbrev pub taken : TakeStep → (b : List ℕ) → After
@@ -59,7 +60,7 @@ taken t b = after (t .told) (if eqb (t .told .said .number) 0 then firstOf (t .l
 -- one call, on a record and with a buffer lent
 unfoldable pub step : Connection → (b : List ℕ) → Call → After
 step c b (openWith s) = silent (opening c s) b
-step c b (frame id s) = silent (arrived longest c id s (length b)) (buffered longest c id s b)
+step c b (frame id s) = (let r = arrived longest c id s (length b) in after (r .told) [] (r .connection) (buffered longest c id s b))
 step c b (time n) = silent (elapsed c n) b
 step c b (due m) = handed (dueOf c m) b
 step c b (send m) = silent (sentBy longest c (length m)) b
@@ -82,12 +83,12 @@ settings =
       block = 15;
       t1 = defaults .t1;
       t3 = defaults .t3;
-      reply = defaults .reply;
-      requests = defaults .requests;
-      repeats = defaults .repeats;
-      pause = defaults .pause;
-      interval = defaults .interval;
-      tests = defaults .tests;
+      «t_e» = defaults .«t_e»;
+      mntc = defaults .mntc;
+      mntb = defaults .mntb;
+      «t_wait» = defaults .«t_wait»;
+      «t_ct» = defaults .«t_ct»;
+      mnct = defaults .mnct;
     }
 
 -- the first message sent: a session is started
@@ -167,4 +168,4 @@ answers = map (λ (a : After). a .says) replayed
 
 -- 0 to every call, and done to the eighth and the fifteenth, the Acks B1 and B2
 abbrev pub allGood : List Said
-allGood = replicate 7 (said Good) ++ said Done ∷ replicate 6 (said Good) ++ said Done ∷ replicate 8 (said Good)
+allGood = replicate 7 (said (Channel Good)) ++ said (Channel Done) ∷ replicate 6 (said (Channel Good)) ++ said (Channel Done) ∷ replicate 8 (said (Channel Good))

@@ -8,16 +8,20 @@
 //
 // Standard input has the number of rounds, 1 to 1,000,000; with no input one is played.
 ghost use mathlib.Core.Path.{_≡_};
-ghost use Prim.Native.Nat.{_≤_};
 ghost use Rattle.connection.specs.Record.{requesting, agreeing, opened, ownFields};
-use channel::Channel;
-use connection::Attempt;
 use connection::Connection;
-use connection::shown;
+use connection::OPEN;
+use connection::attempt::Attempt;
+use open_end::OpenEnd;
+use open_end::shown;
 use sender::Terms;
 use settings::Settings;
 use telegram::kinds::Parameters;
 use telegram::time::tenths;
+use text::output::Output;
+use text::reading;
+use text::reading::Number;
+use text::writing;
 
 // The IDs that the two ends receive on.
 const ONE: u16 = 0x300;
@@ -32,9 +36,6 @@ const TURNS: usize = 16;
 
 // The runs that a message may take. The longest has 10 blocks and takes one there and one back for each.
 const RUNS: usize = 32;
-
-// The phase of an open record.
-const OPEN: u8 = 3;
 
 const LONGEST: usize = 1024;
 
@@ -65,47 +66,36 @@ fn main() {
     let n = io::read_full(0, &mut text);
     let rounds = read_rounds(&text[..n]);
     if rounds == 0 {
-        say(b"error: standard input is not a number of rounds from 1 to 1000000\n");
+        Output::fresh().say(b"error: standard input is not a number of rounds from 1 to 1000000\n");
         return;
     }
     let mut message = [0; 1024];
     let mut buffer = [0; 1024];
     let ends = play(rounds, &mut message, &mut buffer);
     if ends.wrong {
-        say(b"error: a message was not handed out as it was sent\n");
+        Output::fresh().say(b"error: a message was not handed out as it was sent\n");
         return;
     }
     tell(ends.tally);
 }
 
-// The number of rounds: 1 for no text, and 0 for what is no such number.
+// The number of rounds: 1 for no text, and 0 for what is no such number. The text may end in a line end.
 fn read_rounds(text: &[u8]) -> u64 {
     if text.len() == 0 {
         return 1;
     }
-    let mut n: u64 = 0;
-    let mut i = 0;
-    while i < text.len() {
-        let c = text[i];
-        i += 1;
-        if c == b'\n' {
-            if i < text.len() {
-                return 0;
-            }
-            return at_most(n);
-        }
-        if c < b'0' {
-            return 0;
-        }
-        if b'9' < c {
-            return 0;
-        }
-        if MOST_ROUNDS < n {
-            return 0;
-        }
-        n = 10 * n + wide(c - b'0');
+    let last = text.len() - 1;
+    if text[last] == b'\n' {
+        return rounds_of(reading::part(text, 0, last));
     }
-    at_most(n)
+    rounds_of(text)
+}
+
+fn rounds_of(digits: &[u8]) -> u64 {
+    match reading::decimal(digits) {
+        Number::Value(n) => at_most(n),
+        _ => 0,
+    }
 }
 
 // A number of rounds, and 0 for too many.
@@ -263,7 +253,6 @@ fn opened(receive: u16, transmit: u16) -> Connection
     let mut settings = Settings::DEFAULT;
     settings.receive = receive;
     Connection {
-        transmit,
         phase: OPEN,
         leaving: false,
         settings,
@@ -273,22 +262,26 @@ fn opened(receive: u16, transmit: u16) -> Connection
             asked: false,
             repeats: 0,
         },
-        channel: Channel::fresh(channel::Parameters {
-            terms: Terms {
-                t1: tenths(settings.t1),
-                t3: tenths(settings.t3),
-                pause: settings.pause as u32,
-                block: settings.block,
-                repeats: settings.repeats,
+        end: OpenEnd::fresh(
+            transmit,
+            receive,
+            channel::Parameters {
+                terms: Terms {
+                    t1: tenths(settings.t1),
+                    t3: tenths(settings.t3),
+                    t_wait: settings.t_wait as u32,
+                    block: settings.block,
+                    repeats: settings.mntb,
+                },
+                interval: settings.t_ct as u32,
+                allowed: settings.mnct,
+                own: Parameters {
+                    block: settings.block,
+                    t1: settings.t1,
+                    t3: settings.t3,
+                },
             },
-            interval: settings.interval as u32,
-            allowed: settings.tests,
-            own: Parameters {
-                block: settings.block,
-                t1: settings.t1,
-                t3: settings.t3,
-            },
-        }),
+        ),
     }
 }
 
@@ -379,24 +372,20 @@ fn same(a: &[u8], b: &[u8]) -> bool {
 }
 
 fn tell(tally: Tally) {
-    line(b"messages ", tally.messages);
-    line(b"frames ", tally.frames);
-    line(b"bytes ", tally.bytes);
-    line(b"checksum ", tally.checksum);
+    let mut text = [0; 256];
+    let end = report(&mut text, tally);
+    Output::fresh().say(shown(&text, end));
 }
 
-fn line(name: &[u8], n: u64) {
-    say(name);
-    io::print_decimal(1, n);
-    say(b"\n");
+fn report(text: &mut [u8], tally: Tally) -> usize {
+    let at = line(text, 0, b"messages ", tally.messages);
+    let at = line(text, at, b"frames ", tally.frames);
+    let at = line(text, at, b"bytes ", tally.bytes);
+    line(text, at, b"checksum ", tally.checksum)
 }
 
-fn say(text: &[u8]) {
-    io::write_all(1, text);
-}
-
-fn wide(b: u8) -> u64
-    ensures { λ r. ⌜ r ≤ 255 ⌝ }
-{
-    b as u64
+fn line(text: &mut [u8], at: usize, name: &[u8], n: u64) -> usize {
+    let at = writing::bytes(text, at, name);
+    let at = writing::decimal(text, at, n);
+    writing::byte(text, at, b'\n')
 }

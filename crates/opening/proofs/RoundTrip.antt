@@ -6,7 +6,7 @@ use mathlib.Core.Bool.{true}
 use mathlib.Core.Path.{_≡_, refl, ap}
 use lib.ListN.{length}
 use borrow.Author.Tests.{lt-ltb, eq-eqb}
-use Rattle.telegram.specs.Outgoing.{sent}
+use Rattle.telegram.specs.Outgoing.{bytesOf}
 use Rattle.opening.specs.Opening.{lowOf, highOf, idOf, clear, requestOf, replyOf, requestRead, replyRead, refusal}
 use Rattle.opening.specs.declared.Reply.the-variants.{Positive, Refused}
 use Rattle.opening.specs.declared.Request.the-variants.{Open}
@@ -20,20 +20,20 @@ id-joined : (i : ℕ) → i < 2048 → idOf (lowOf i) (highOf i) ≡ i
 id-joined i h = let e : i / 256 % 8 ≡ i / 256 = mod-eq-of-lt (omega arith) in omega arith
 
 -- a request, read, names the unit and the receive ID that it was written for
-pub request-read : (u r : ℕ) → r < 2048 → requestRead (sent (requestOf u r)) ≡ Open u r
+pub request-read : (u r : ℕ) → r < 2048 → requestRead (bytesOf (requestOf u r)) ≡ Open u r
 unfolding requestRead
 request-read u r h = rw (high-clear r) (ap (Open u) (id-joined r h))
 
 -- a positive reply, read by the end that asked, names the transmit ID that it was written for
-pub positive-read : (r t : ℕ) → r < 2048 → t < 2048 → replyRead (sent (replyOf 0xD0 r t)) r ≡ Positive t
+pub positive-read : (r t : ℕ) → r < 2048 → t < 2048 → replyRead (bytesOf (replyOf 0xD0 r t)) r ≡ Positive t
 unfolding replyRead
 positive-read r t h k = rw (high-clear r, eq-eqb _ _ (id-joined r h), high-clear t) (ap Positive (id-joined t k))
 
 -- a refusal, read, names its opcode, whatever IDs stand in it and whoever reads it
-pub refused-read : (op r t own : ℕ) → refusal op ≡ true → replyRead (sent (replyOf op r t)) own ≡ Refused op
+pub refused-read : (op r t own : ℕ) → refusal op ≡ true → replyRead (bytesOf (replyOf op r t)) own ≡ Refused op
 unfolding replyRead
 refused-read op r t own h = rw h
 
 -- requests and replies have seven bytes
-pub opening-length : (u r op t : ℕ) → (length (sent (requestOf u r)) ≡ 7) × (length (sent (replyOf op r t)) ≡ 7)
+pub opening-length : (u r op t : ℕ) → (length (bytesOf (requestOf u r)) ≡ 7) × (length (bytesOf (replyOf op r t)) ≡ 7)
 opening-length u r op t = (refl, refl)

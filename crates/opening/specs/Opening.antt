@@ -5,12 +5,16 @@ use mathlib.Core.List.{List, [], _∷_}
 use lib.ListN.{length, getD}
 use lib.Dec.{ltb, eqb}
 use Rattle.laws.specs.If.{if_then_else_}
-use Rattle.telegram.specs.Outgoing.{written}
+use Rattle.telegram.specs.Outgoing.{payloadOf}
 use Rattle.telegram.specs.declared.payload.Payload.{Payload}
 use Rattle.opening.specs.declared.Reply.{Reply}
 use Rattle.opening.specs.declared.Reply.the-variants.{Positive, Refused, Malformed as NoReply}
 use Rattle.opening.specs.declared.Request.{Request}
 use Rattle.opening.specs.declared.Request.the-variants.{Open, Malformed as NoRequest}
+
+-- the CAN ID of every request
+abbrev pub requestId : ℕ
+requestId = 0x200
 
 -- an ID's low byte
 abbrev pub lowOf : ℕ → ℕ
@@ -30,12 +34,12 @@ clear high = ltb high 8
 
 -- the request: unit, C0, 00, 10, receive ID low, receive ID high, 01
 abbrev pub requestOf : (unit receive : ℕ) → Payload
-requestOf unit receive = written (unit ∷ 0xC0 ∷ 0x00 ∷ 0x10 ∷ lowOf receive ∷ highOf receive ∷ 0x01 ∷ [])
+requestOf unit receive = payloadOf (unit ∷ 0xC0 ∷ 0x00 ∷ 0x10 ∷ lowOf receive ∷ highOf receive ∷ 0x01 ∷ [])
 
 -- the replies, D6 to D8 filled in like D0: 00, opcode, receive ID low and high, transmit ID low and high, 01
 abbrev pub replyOf : (opcode receive transmit : ℕ) → Payload
 replyOf opcode receive transmit =
-    written (0x00 ∷ opcode ∷ lowOf receive ∷ highOf receive ∷ lowOf transmit ∷ highOf transmit ∷ 0x01 ∷ [])
+    payloadOf (0x00 ∷ opcode ∷ lowOf receive ∷ highOf receive ∷ lowOf transmit ∷ highOf transmit ∷ 0x01 ∷ [])
 
 -- a request is well formed with exactly these bytes, whatever its unit and receive ID
 unfoldable pub requestRead : List ℕ → Request

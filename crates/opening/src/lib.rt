@@ -4,6 +4,9 @@ ghost use mathlib.Core.Path.{_≡_};
 ghost use Rattle.opening.specs.Opening.{idOf, requestOf, replyOf, requestRead, replyRead};
 use telegram::payload::Payload;
 
+// The CAN ID of every request; the unit answers on this ID and its own number.
+pub const REQUEST_ID: u16 = 0x200;
+
 // The opcode of the positive reply, and of the three negative ones.
 pub const POSITIVE: u8 = 0xD0;
 

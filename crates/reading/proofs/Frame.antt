@@ -3,21 +3,23 @@
 use Prim.Native.Nat.{ℕ, zero, suc, _+_, _-_, _*_, _%_, _<_, _≤_, min}
 use native.Mathlib.Omega.{arith}
 use mathlib.Core.Bool.{Bool, true, false}
-use mathlib.Core.Path.{_≡_, refl, sym, _∙_, ap}
+use mathlib.Core.Path.{_≡_, refl, sym, _∙_, ap, subst₂}
 use mathlib.Core.List.{List, _++_, append-assoc}
-use lib.ListN.{length, take, drop, getD, length-append, length-take, length-drop, take-append-drop}
+use lib.ListN.{length, take, drop, length-append, length-take, length-drop, take-append-drop}
 use lib.Seq.{length-take-le, take-append-seam, take-at, take-length, drop-append-add, drop-drop, take-add}
 use lib.Dec.{ltb, eqb}
-use borrow.Author.Tests.{eqb-true, eqb-false, eq-eqb, ne-eqb, le-ltb}
-use Rattle.laws.specs.If.{if_then_else_}
-use Rattle.telegram.specs.Cutting.{declaredOf, framesOf, streamOf, lastAt}
+use borrow.Author.Tests.{eqb-true, eqb-false, ne-eqb}
+use Rattle.telegram.specs.Cutting.{framesOf, streamOf, lastAt}
 use Rattle.telegram.specs.declared.kinds.Telegram.the-variants.{Data}
 use Rattle.telegram.proofs.RoundTrip.{stream-declares, stream-carries}
 use Rattle.receiver.specs.declared.Message.{Message}
+use Rattle.receiver.specs.declared.Standing.{Standing}
 use Rattle.receiver.specs.declared.Receiver.{Receiver}
-use Rattle.receiver.specs.declared.Received.{Received}
-use Rattle.receiver.specs.declared.Receipt.the-variants.{Used, Complete}
-use Rattle.receiver.specs.Receiving.{none, first, following, settled, numbered, used, completed, filled, onFirst, onLater, onData, received, pasted, copied, buffered}
+use Rattle.receiver.specs.declared.Receipt.{Receipt}
+use Rattle.receiver.specs.declared.Receipt.the-variants.{Used}
+use Rattle.receiver.specs.Receiving.{none, first, following, onData, pasted, isUsed, buffered}
+use Rattle.receiver.proofs.Outcomes.{Brings, at-first, at-later, EndsThere, InOrder, fitted, fitting}
+use Rattle.receiver.proofs.Laws.{numbered-leaves, received-data, buffered-first, buffered-later}
 use Rattle.reading.specs.Reading.{Reading, Read, after, arrives}
 
 -- the standing between frames
@@ -62,136 +64,135 @@ later-piece m k z =
     let e : 7 * k ≡ 2 + (7 * k - 2) = omega arith in
     ap (λ (n : ℕ). take 7 (drop n (streamOf m))) e ∙ ap (take 7) (sym (drop-drop (7 * k - 2) 2 (streamOf m)) ∙ ap (drop (7 * k - 2)) (stream-carries m))
 
--- what a frame in its place comes to
-
--- how far a frame that neither breaks its message nor lacks room brings it
-abbrev brought : Receiver → (asks last : Bool) → Message → (fill : ℕ) → Received
-brought r asks last m fill = if last then record { note = Complete; receiver = completed r asks m } else record { note = Used; receiver = used r asks m fill }
-
-filled-brought : (r : Receiver) (asks last : Bool) (m : Message) (fill room : ℕ)
-    → (last ≡ true → fill ≡ m .length) → (last ≡ false → fill < m .length) → m .length ≤ room → filled r asks last m fill room ≡ brought r asks last m fill
-unfolding filled
-filled-brought r asks true m fill room t f roomy =
-    let e = t refl in
-    rw (le-ltb (m .length) fill (omega arith), le-ltb fill (m .length) (omega arith), le-ltb room (m .length) roomy)
-filled-brought r asks false m fill room t f roomy =
-    let e = f refl in
-    rw (le-ltb (m .length) fill (omega arith), ne-eqb fill (m .length) (λ z. omega arith), le-ltb room (m .length) roomy)
-
--- a first frame that declares n bytes
-first-filled : (limit : ℕ) (r : Receiver) (asks last : Bool) (p : List ℕ) (room n fill : ℕ)
-    → 2 ≤ length p → declaredOf (getD p 0 0) (getD p 1 0) ≡ n → 0 < n → n ≤ limit → length p - 2 ≡ fill
-    → onFirst limit r asks last p room ≡ filled r asks last (record { length = n }) fill room
-unfolding onFirst
-first-filled limit r asks last p room n fill two d some most f =
-    rw (le-ltb (length p) 2 two, d, ne-eqb n 0 (λ z. omega arith), le-ltb limit n most, f)
-
--- a later frame of a message of n bytes
-later-filled : (r : Receiver) (asks last : Bool) (p : List ℕ) (room n fill : ℕ)
-    → r .at .begun ≡ record { length = n } → r .at .fill ≡ fill → n ≤ room
-    → onLater r asks last p room ≡ filled r asks last (record { length = n }) (fill + length p) room
-unfolding onLater
-later-filled r asks last p room n fill m f roomy =
-    rw (le-ltb room (r .at .begun .length) (rw m roomy)) (λ i. filled r asks last (m i) (f i + length p) room)
-
 -- numbers
 
--- before the last frame, and behind every frame but the last, bytes are missing; the last one brings the rest
+-- to how many bytes the frame behind k others brings a message of n
+abbrev reach : (n k : ℕ) → ℕ
+reach n k = min (7 * k + 5) n
+
+-- the bytes before a frame are not more than the message has
 few : (n k : ℕ) → k < framesOf n → 7 * k - 2 < n + 1
 unfolding framesOf
 few n k h = omega arith
 
-rest : (n k : ℕ) → k + 1 ≡ framesOf n → min (7 * k + 5) n ≡ n
+-- EOM stands on the frame that brings the rest
+reach-ends : (n k : ℕ) (l : Bool) → lastAt n k ≡ l → k < framesOf n → EndsThere l (reach n k) n
 unfolding framesOf
-rest n k h = omega arith
+reach-ends n k true l h = let e = eqb-true (k + 1) (framesOf n) l in omega arith
+reach-ends n k false l h = let e = eqb-false (k + 1) (framesOf n) l in omega arith
 
-missing : (n k : ℕ) → k + 1 < framesOf n → (7 * k + 5 < n) × (min (7 * k + 5) n ≡ 7 * (k + 1) - 2)
+-- every other frame is full
+reach-next : (n k : ℕ) → k + 1 < framesOf n → reach n k ≡ 7 * (k + 1) - 2
 unfolding framesOf
-missing n k h = (omega arith, omega arith)
+reach-next n k h = omega arith
+
+-- what stands in the buffer behind k frames is that of the message
+pub behind-front : {m : List ℕ} {number : ℕ} {b : List ℕ} {h : Reading} (k : ℕ) → k < framesOf (length m) → Behind m number b k h → take (7 * k - 2) (h .buffer) ≡ take (7 * k - 2) m
+behind-front {m} {b = b} k more s =
+    let l = few (length m) k more in
+    ap (take (7 * k - 2)) (s .buffer) ∙ take-at (take (7 * k - 2) m) (drop (7 * k - 2) b) (7 * k - 2) (length-take-le (7 * k - 2) m (omega arith))
+
+-- the frame behind k others is used, and the number behind it is expected
+pub reads-used : {m : List ℕ} {number : ℕ} {b : List ℕ} {k : ℕ} {h : Reading} → Reads m number b k h → isUsed (h .note) ≡ true
+reads-used (within u n s) = ap isUsed n
+reads-used (whole e r) = ap isUsed (r .note)
+
+pub reads-expected : {m : List ℕ} {number : ℕ} {b : List ℕ} {k : ℕ} {h : Reading} → Reads m number b k h → h .receiver .at .expected ≡ (number + (k + 1)) % 16
+reads-expected (within u n s) = s .expected
+reads-expected {number = number} (whole e r) = r .expected ∙ ap (λ (n : ℕ). (number + n) % 16) (sym e)
+
+-- data arrives as data
+pub arrives-data : (limit : ℕ) (h : Reading) (asks last : Bool) (number : ℕ) (p : List ℕ)
+    → arrives limit h (Data asks last number) p ≡ after h p (onData limit (h .receiver) asks last number p (length (h .buffer)))
+unfolding arrives
+arrives-data limit h asks last number p = ap (after h p) (received-data limit (h .receiver) p (length (h .buffer)) asks last number)
 
 module _ (limit : ℕ) (m : List ℕ) (number : ℕ) (b : List ℕ) (some : 0 < length m) (most : length m ≤ limit) (two : limit ≤ 65535) (roomy : length m ≤ length b) where
   abbrev message : Message
   message = record { length = length m }
 
-  -- the answer to the frame behind k others
-  abbrev answer : (k : ℕ) → Reading → (asks last : Bool) → Received
-  answer k h asks last = onData limit (h .receiver) asks last ((number + k) % 16) (piece m k) (length (h .buffer))
-
-  -- the frame is in its place, and no message waits or is thrown away
-  in-place : (k : ℕ) (h : Reading) (asks last : Bool) → Behind m number b k h
-      → answer k h asks last ≡ (if first (h .receiver) then onFirst limit (h .receiver) asks last (piece m k) (length (h .buffer)) else onLater (h .receiver) asks last (piece m k) (length (h .buffer)))
-  unfolding onData
-  in-place k h asks last s =
-      rw (eq-eqb ((number + k) % 16) (h .receiver .at .expected) (sym (s .expected)), ap (λ (x : Message). ltb 0 (x .length)) (s .complete), s .discarding)
-
   -- the buffer still has room for the message
   behind-room : (k : ℕ) (h : Reading) → k < framesOf (length m) → Behind m number b k h → length m ≤ length (h .buffer)
   behind-room k h more s = let l = few (length m) k more in rw (s .buffer) (simp (length-append, length-take, length-drop) (omega arith))
 
-  -- a frame is judged by the bytes that it brings the message to, and its own are copied behind those that stand there
-  record Brought (k fill : ℕ) (h : Reading) (asks last : Bool) : Type 0 where
-    judged : answer k h asks last ≡ filled (h .receiver) asks last message fill (length (h .buffer))
-    copies : copied (h .receiver) (piece m k) (h .buffer) ≡ take fill m ++ drop fill b
-    reach : fill ≡ min (7 * k + 5) (length m)
+  -- the frame behind k others: how far it brings the message, and the buffer with it
+  record Brought (k : ℕ) (h : Reading) : Type 0 where
+    brings : Brings limit (h .receiver) (piece m k) (length (h .buffer)) message (reach (length m) k)
+    copies : (note : Receipt) → isUsed note ≡ true → buffered (h .receiver) note (piece m k) (h .buffer) ≡ take (reach (length m) k) m ++ drop (reach (length m) k) b
 
-  -- to how many bytes w more bring the message behind k frames
-  abbrev next : (k w : ℕ) → ℕ
-  next k w = 7 * k - 2 + length (take w (drop (7 * k - 2) m))
+  first-brought : (h : Reading) → Behind m number b 0 h → Brought 0 h
+  unfolding streamOf
+  first-brought h s =
+      let f : first (h .receiver) ≡ true = ap (λ (x : Message). eqb (x .length) 0) (s .starts refl) in
+      let d = stream-declares m (omega arith) in
+      let g : 0 + length (take 5 m) ≡ reach (length m) 0 = simp length-take (omega arith) in
+      record {
+        brings =
+            subst₂ (λ (n fill : ℕ). Brings limit (h .receiver) (piece m 0) (length (h .buffer)) (record { length = n }) fill) d (omega arith)
+            (at-first f (omega arith) (rw d some) (rw d most));
+        copies = λ note u. buffered-first (h .receiver) note (piece m 0) (h .buffer) u f ∙ rw (s .buffer, ← g) (paste-next m b 0 5 (omega arith));
+      }
 
-  module _ (h : Reading) (asks last : Bool) where
-    first-brought : Behind m number b 0 h → Brought 0 (next 0 5) h asks last
-    unfolding streamOf copied
-    first-brought s =
-        let f : first (h .receiver) ≡ true = ap (λ (x : Message). eqb (x .length) 0) (s .starts refl) in
-        record {
-          judged = in-place 0 h asks last s ∙ rw f
-              (first-filled limit (h .receiver) asks last (piece m 0) (length (h .buffer)) (length m) (next 0 5) (omega arith) (stream-declares m (omega arith)) some most (omega arith));
-          copies = rw (f, s .buffer) (paste-next m b 0 5 (omega arith));
-          reach = simp length-take (omega arith);
-        }
+  later-brought : (k : ℕ) (h : Reading) → 0 < k → k < framesOf (length m) → Behind m number b k h → Brought k h
+  later-brought k h z more s =
+      let f : first (h .receiver) ≡ false = ap (λ (x : Message). eqb (x .length) 0) (s .begun z) ∙ ne-eqb (length m) 0 (λ e. omega arith) in
+      let p = later-piece m k z in
+      let l = few (length m) k more in
+      let g : 7 * k - 2 + length (take 7 (drop (7 * k - 2) m)) ≡ reach (length m) k = simp (length-take, length-drop) (omega arith) in
+      record {
+        brings =
+            subst₂ (Brings limit (h .receiver) (piece m k) (length (h .buffer))) (s .begun z) (rw (s .fill z, p) g)
+            (at-later f (rw (s .begun z) (behind-room k h more s)));
+        copies = λ note u. buffered-later (h .receiver) note (piece m k) (h .buffer) u f ∙ rw (s .fill z, p, s .buffer, ← g) (paste-next m b (7 * k - 2) 7 (omega arith));
+      }
 
-    later-brought : (k : ℕ) → 0 < k → k < framesOf (length m) → Behind m number b k h → Brought k (next k 7) h asks last
-    unfolding copied
-    later-brought k z more s =
-        let f : first (h .receiver) ≡ false = ap (λ (x : Message). eqb (x .length) 0) (s .begun z) ∙ ne-eqb (length m) 0 (λ e. omega arith) in
-        let p = later-piece m k z in
-        let l = few (length m) k more in
-        record {
-          judged = in-place k h asks last s ∙ rw (f, p)
-              (later-filled (h .receiver) asks last (take 7 (drop (7 * k - 2) m)) (length (h .buffer)) (length m) (7 * k - 2) (s .begun z) (s .fill z) (behind-room k h more s));
-          copies = rw (f, p, s .buffer, s .fill z) (paste-next m b (7 * k - 2) 7 (omega arith));
-          reach = simp (length-take, length-drop) (omega arith);
-        }
+  brought : (k : ℕ) (h : Reading) → k < framesOf (length m) → Behind m number b k h → Brought k h
+  brought zero h more s = first-brought h s
+  brought (suc j) h more s = later-brought (suc j) h (omega arith) more s
 
-  module _ (k fill : ℕ) (h : Reading) (asks : Bool) (more : k < framesOf (length m)) (s : Behind m number b k h) where
+  module _ (k : ℕ) (h : Reading) (asks : Bool) (more : k < framesOf (length m)) (s : Behind m number b k h) where
+    -- the frame is in its place, and no message waits or is thrown away
+    in-place : InOrder (h .receiver) ((number + k) % 16)
+    in-place = record { expected = sym (s .expected); none-waits = ap (λ (x : Message). ltb 0 (x .length)) (s .complete); not-discarding = s .discarding }
+
     next-expected : following (h .receiver .at .expected) ≡ (number + (k + 1)) % 16
     next-expected = ap following (s .expected) ∙ omega arith
 
     -- what the frame leaves, by whether it is the last
-    left-reads : (last : Bool) → lastAt (length m) k ≡ last → Brought k fill h asks last → Reads m number b k (after h (piece m k) (brought (h .receiver) asks last message fill))
-    unfolding buffered numbered settled
-    left-reads true l a =
+    fitted-reads : (last : Bool) → lastAt (length m) k ≡ last → Brought k h
+        → Reads m number b k (after h (piece m k) (fitted limit (h .receiver) asks last ((number + k) % 16) (piece m k) (length (h .buffer)) message (reach (length m) k)))
+    fitted-reads true l a =
         let e = eqb-true (k + 1) (framesOf (length m)) l in
-        let f : fill ≡ length m = a .reach ∙ rest (length m) k e in
-        whole e (record { note = refl; complete = refl; expected = rw (← e) next-expected; discarding = refl; begun = refl; buffer = a .copies ∙ rw (f, take-length) })
-    left-reads false l a =
+        let n = numbered-leaves (h .receiver) asks true false none 0 message in
+        let f : reach (length m) k ≡ length m = reach-ends (length m) k true l more in
+        whole e
+        (record {
+          note = refl;
+          complete = n .complete;
+          expected = ap (λ (x : Standing). x .expected) (n .at) ∙ rw (← e) next-expected;
+          discarding = ap (λ (x : Standing). x .discarding) (n .at);
+          begun = ap (λ (x : Standing). x .begun) (n .at);
+          buffer = a .copies _ refl ∙ rw (f, take-length);
+        })
+    fitted-reads false l a =
         let e = eqb-false (k + 1) (framesOf (length m)) l in
+        let n = numbered-leaves (h .receiver) asks false false message (reach (length m) k) (h .receiver .complete) in
         let u : k + 1 < framesOf (length m) = omega arith in
-        let f : fill ≡ 7 * (k + 1) - 2 = a .reach ∙ missing (length m) k u .1 in
-        within u refl (record { expected = next-expected; discarding = refl; complete = s .complete; starts = λ z. absurd (omega arith); begun = λ z. refl; fill = λ z. f; buffer = a .copies ∙ rw f })
+        let f = reach-next (length m) k u in
+        within u refl
+        (record {
+          expected = ap (λ (x : Standing). x .expected) (n .at) ∙ next-expected;
+          discarding = ap (λ (x : Standing). x .discarding) (n .at);
+          complete = n .complete ∙ s .complete;
+          starts = λ z. absurd (omega arith);
+          begun = λ z. ap (λ (x : Standing). x .begun) (n .at);
+          fill = λ z. ap (λ (x : Standing). x .fill) (n .at) ∙ f;
+          buffer = a .copies _ refl ∙ rw f;
+        })
 
-    brought-reads : Brought k fill h asks (lastAt (length m) k) → Reads m number b k (arrives limit h (Data asks (lastAt (length m) k) ((number + k) % 16)) (piece m k))
-    unfolding arrives received
-    brought-reads a =
-        let e : answer k h asks (lastAt (length m) k) ≡ brought (h .receiver) asks (lastAt (length m) k) message fill =
-        a .judged ∙ filled-brought (h .receiver) asks (lastAt (length m) k) message fill (length (h .buffer))
-        (λ l. a .reach ∙ rest (length m) k (eqb-true (k + 1) (framesOf (length m)) l))
-        (λ l. let v = eqb-false (k + 1) (framesOf (length m)) l in let u = missing (length m) k (omega arith) in let g = a .reach in omega arith)
-        (behind-room k h more s) in
-        rw e (left-reads (lastAt (length m) k) refl a)
-
-  -- a receiver that stands behind k frames, given the next one, stands behind that too, or has the message whole
-  pub reads-frame : (k : ℕ) (h : Reading) (asks : Bool) → k < framesOf (length m) → Behind m number b k h
-      → Reads m number b k (arrives limit h (Data asks (lastAt (length m) k) ((number + k) % 16)) (piece m k))
-  reads-frame zero h asks more s = brought-reads 0 (next 0 5) h asks more s (first-brought h asks (lastAt (length m) 0) s)
-  reads-frame (suc j) h asks more s = brought-reads (suc j) (next (suc j) 7) h asks more s (later-brought h asks (lastAt (length m) (suc j)) (suc j) (omega arith) more s)
+    -- a receiver that stands behind k frames, given the next one, stands behind that too, or has the message whole
+    pub reads-frame : Reads m number b k (arrives limit h (Data asks (lastAt (length m) k) ((number + k) % 16)) (piece m k))
+    reads-frame =
+        let a = brought k h more s in
+        rw (arrives-data, fitting limit (h .receiver) asks (lastAt (length m) k) ((number + k) % 16) (piece m k) (length (h .buffer)) in-place (a .brings) (reach-ends (length m) k _ refl more) (behind-room k h more s))
+        (fitted-reads (lastAt (length m) k) refl a)

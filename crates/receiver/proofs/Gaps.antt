@@ -4,11 +4,12 @@ use native.Mathlib.Omega.{arith}
 use mathlib.Core.Bool.{Bool, true, false, not}
 use mathlib.Core.Path.{_≡_, refl}
 use mathlib.Core.List.{List, [], _∷_}
-use borrow.Author.Tests.{ne-eqb}
-use Rattle.receiver.specs.Receiving.{none, idle, noAck, waiting, following, settled, kept, filled, onFirst, onData, isUsed}
+use Rattle.receiver.specs.Receiving.{none, idle, noAck, waiting, following, kept, filled, onFirst, onData, isUsed}
 use Rattle.receiver.specs.declared.Receiver.{Receiver}
 use Rattle.receiver.specs.declared.Receipt.the-variants.{Complete, OutOfPlace}
 use Rattle.receiver.specs.declared.Received.{Received}
+use Rattle.receiver.proofs.Outcomes.{Outcome, out-of-place, untaken, thrown-away, in-order, outcome}
+use Rattle.receiver.proofs.Laws.{settled-leaves}
 
 -- the seam where numbers begin again: 15 comes before 0, and 0 before 1, so each is out of place there
 
@@ -34,18 +35,24 @@ pub record Unused (r : Receiver) (x : Received) : Type 0 where
   pub complete : x .receiver .complete ≡ r .complete
   pub ack : x .receiver .ack ≡ record { due = true; ready = not (waiting r); number = r .at .expected }
 
+-- a frame with another number than the expected one changes nothing, except an asked-for Ack
+pub gap-kept : (limit : ℕ) (r : Receiver) (asks last : Bool) (number : ℕ) (p : List ℕ) (room : ℕ)
+    → (number ≡ r .at .expected → ⊥) → onData limit r asks last number p room ≡ record { note = OutOfPlace (r .at .expected); receiver = kept r asks }
+gap-kept limit r asks last number p room n = go (outcome limit r asks last number p room)
+  where
+    go : {x : Received} → Outcome limit r asks last number p room x → x ≡ record { note = OutOfPlace (r .at .expected); receiver = kept r asks }
+    go (out-of-place _) = refl
+    go (untaken e w) = absurd (n e)
+    go (thrown-away e w t) = absurd (n e)
+    go (in-order o j) = absurd (n (o .expected))
+
 module _ (limit : ℕ) (r : Receiver) (last : Bool) (number : ℕ) (p : List ℕ) (room : ℕ) where
   -- after a gap the Ack carries the number expected, not the frame's own + 1
   pub gap-acknowledged : (number ≡ r .at .expected → ⊥) → Unused r (onData limit r true last number p room)
-  unfolding onData settled
-  gap-acknowledged n = rw (ne-eqb number (r .at .expected) n) (record { note = refl; at = refl; complete = refl; ack = refl })
+  gap-acknowledged n =
+      let l = settled-leaves r true false (r .at) (r .complete) in
+      rw (gap-kept limit r true last number p room n) (record { note = refl; at = l .at; complete = l .complete; ack = l .ack })
 
   -- a repeated last frame, one behind the expected number, is acknowledged again and not used, whatever the state
   pub repeat-acknowledged : following number ≡ r .at .expected → Unused r (onData limit r true last number p room)
   repeat-acknowledged e = gap-acknowledged (λ same. omega arith)
-
--- a frame with another number than the expected one changes nothing, except an asked-for Ack
-pub gap-kept : (limit : ℕ) (r : Receiver) (asks last : Bool) (number : ℕ) (p : List ℕ) (room : ℕ)
-    → (number ≡ r .at .expected → ⊥) → onData limit r asks last number p room ≡ record { note = OutOfPlace (r .at .expected); receiver = kept r asks }
-unfolding onData
-gap-kept limit r asks last number p room n = rw (ne-eqb number (r .at .expected) n)

@@ -1,4 +1,4 @@
-pub mod Gaps
 pub mod Outcomes
 pub mod Laws
+pub mod Gaps
 pub mod Verdict

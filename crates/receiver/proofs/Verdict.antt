@@ -9,17 +9,18 @@ use lib.ListN.{length, getD}
 use lib.Dec.{ltb, eqb}
 use borrow.Author.Tests.{le-ltb}
 use Rattle.laws.specs.If.{if_then_else_}
-use Rattle.laws.proofs.Cases.{either, by, by-not, by-lt, by-eq}
+use Rattle.laws.proofs.Cases.{either}
 use Rattle.telegram.specs.Cutting.{declaredOf}
-use Rattle.receiver.specs.Receiving.{fresh, first, waiting, kept, discarded, used, completed, filled, onFirst, onLater, onData}
-use Rattle.receiver.specs.Inside.{inOrder, broughtBy, left}
+use Rattle.receiver.specs.Receiving.{fresh, first, filled, onFirst, onLater}
+use Rattle.receiver.specs.Inside.{inOrder, broughtBy, receiverAfter}
 use Rattle.receiver.specs.declared.Message.{Message}
 use Rattle.receiver.specs.declared.Brought.{Brought}
 use Rattle.receiver.specs.declared.Receiver.{Receiver}
 use Rattle.receiver.specs.declared.Cause.the-variants.{TooShort, BadLength, TooMany, NoEnd, EarlyEnd}
 use Rattle.receiver.specs.declared.Receipt.{Receipt}
-use Rattle.receiver.specs.declared.Receipt.the-variants.{Used, Complete, ThrownAway, OutOfPlace, Untaken, ShortFirst, ShortLater, Broken}
+use Rattle.receiver.specs.declared.Receipt.the-variants.{Used, Complete, ShortFirst, ShortLater, Broken}
 use Rattle.receiver.specs.declared.Received.{Received}
+use Rattle.receiver.proofs.Outcomes.{Brings, at-first, at-later, Judged, breaks, short-first, short-later, goes-on, ends, judged}
 
 -- what becomes of a frame that brings a message to fill bytes
 pub filled-notes : (r : Receiver) (asks last : Bool) (m : Message) (fill room : ℕ) → (filled r asks last m fill room) .note
@@ -66,43 +67,31 @@ note-alike : (limit : ℕ) (r : Receiver) (asks last : Bool) (p : List ℕ) (roo
 note-alike limit r asks last p room = order-notes limit r asks last p room _ refl ∙ sym (order-notes limit r false last p room _ refl)
 
 -- what is left, by what became of the frame
-abbrev Leaves : Receiver → (asks last : Bool) → Brought → Received → Type 0
-Leaves r asks last b x = x ≡ record { note = x .note; receiver = left r (x .note) asks last b }
-
 module _ (limit : ℕ) (r : Receiver) (asks last : Bool) (p : List ℕ) (room : ℕ) where
-  filled-leaves : (m : Message) (fill : ℕ) → m .length < 65536 → Leaves r asks last (record { length = m .length; fill = fill }) (filled r asks last m fill room)
-  unfolding filled left
-  filled-leaves m fill small =
-      by-lt (Leaves r asks last _) (m .length) fill (λ _. refl) (λ few.
-      by (Leaves r asks last _) (not last && eqb fill (m .length)) (λ _. refl) (λ _.
-      by (Leaves r asks last _) (last && ltb fill (m .length)) (λ _. refl) (λ _.
-      by-lt (Leaves r asks last _) room (m .length) (λ _. refl) (λ _.
-      by (Leaves r asks last (record { length = m .length; fill = fill })) last (λ _. refl) (λ _. let less : fill < 65536 = omega arith in rw (mod-eq-of-lt less))))))
-
-  brought-first : first r ≡ true → 2 ≤ length p → broughtBy r p ≡ record { length = declaredOf (getD p 0 0) (getD p 1 0); fill = length p - 2 }
+  brings-brought : {m : Message} {fill : ℕ} → Brings limit r p room m fill → broughtBy r p ≡ record { length = m .length; fill = fill }
   unfolding broughtBy
-  brought-first f two = rw (f, le-ltb (length p) 2 two)
+  brings-brought (at-first f two some most) = rw (f, le-ltb (length p) 2 two)
+  brings-brought (at-later f held) = rw f
 
-  brought-later : first r ≡ false → broughtBy r p ≡ record { length = r .at .begun .length; fill = r .at .fill + length p }
-  unfolding broughtBy
-  brought-later f = rw f
+  -- the length of a message is one that two bytes tell
+  brings-small : {m : Message} {fill : ℕ} → limit < 65536 → r .at .begun .length < 65536 → Brings limit r p room m fill → m .length < 65536
+  brings-small most begun (at-first f two some h) = omega arith
+  brings-small most begun (at-later f held) = begun
 
-  abbrev Here : Received → Type 0
-  Here x = Leaves r asks last (broughtBy r p) x
-
-  order-leaves : limit < 65536 → r .at .begun .length < 65536 → Here (inOrder limit r asks last p room)
-  unfolding onFirst onLater left
-  order-leaves most begun =
-      by Here (first r)
-      (λ f.
-      by-lt Here (length p) 2 (λ _. refl) (λ two.
-      by-eq Here (declaredOf (getD p 0 0) (getD p 1 0)) 0 (λ _. refl) (λ _.
-      by-lt Here limit (declaredOf (getD p 0 0) (getD p 1 0)) (λ _. refl) (λ short.
-      rw (brought-first f two) (filled-leaves (record { length = declaredOf (getD p 0 0) (getD p 1 0) }) (length p - 2) (omega arith))))))
-      (λ f. by-lt Here room (r .at .begun .length) (λ _. refl) (λ _. rw (brought-later f) (filled-leaves (r .at .begun) (r .at .fill + length p) begun)))
+  judged-leaves : {x : Received} → limit < 65536 → r .at .begun .length < 65536 → Judged limit r asks last p room x
+      → x ≡ record { note = x .note; receiver = receiverAfter r (x .note) asks last (broughtBy r p) }
+  unfolding receiverAfter
+  judged-leaves most begun (breaks c) = refl
+  judged-leaves most begun (short-first b e h) = refl
+  judged-leaves most begun (short-later f h) = refl
+  judged-leaves most begun (goes-on {fill = fill} b l less roomy) =
+      let small = brings-small most begun b in
+      let few : fill < 65536 = omega arith in
+      rw (brings-brought b, mod-eq-of-lt few)
+  judged-leaves most begun (ends b l all roomy) = rw (brings-brought b)
 
   -- both steps
   pub in-two-steps : limit < 65536 → r .at .begun .length < 65536
-      → (b : Brought) (v : Receipt) (a : Receiver) → b ≡ broughtBy r p → v ≡ (inOrder limit r false last p room) .note → a ≡ left r v asks last b
+      → (b : Brought) (v : Receipt) (a : Receiver) → b ≡ broughtBy r p → v ≡ (inOrder limit r false last p room) .note → a ≡ receiverAfter r v asks last b
       → _≡_ {A = Received} (record { note = v; receiver = a }) (inOrder limit r asks last p room)
-  in-two-steps most begun b v a eb ev ea = rw (ea, eb, ev, ← note-alike limit r asks last p room) (sym (order-leaves most begun))
+  in-two-steps most begun b v a eb ev ea = rw (ea, eb, ev, ← note-alike limit r asks last p room) (sym (judged-leaves most begun (judged limit r asks last p room)))

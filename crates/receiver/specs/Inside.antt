@@ -25,13 +25,13 @@ broughtBy r p =
     else record { length = declaredOf (getD p 0 0) (getD p 1 0); fill = length p - 2 }
 
 -- the receiver after a first or a later frame, by what became of it; the other receipts are not theirs
-unfoldable pub left : Receiver → Receipt → (asks last : Bool) → Brought → Receiver
-left r Used asks last b = used r asks (record { length = b .length }) (b .fill % 65536)
-left r Complete asks last b = completed r asks (record { length = b .length })
-left r ThrownAway asks last b = r
-left r (OutOfPlace e) asks last b = r
-left r Untaken asks last b = r
-left r ShortFirst asks last b = discarded r asks last
-left r ShortLater asks last b = r
-left r (Broken c) asks last b = discarded r asks last
-left r NoData asks last b = r
+unfoldable pub receiverAfter : Receiver → Receipt → (asks last : Bool) → Brought → Receiver
+receiverAfter r Used asks last b = used r asks (record { length = b .length }) (b .fill % 65536)
+receiverAfter r Complete asks last b = completed r asks (record { length = b .length })
+receiverAfter r ThrownAway asks last b = r
+receiverAfter r (OutOfPlace e) asks last b = r
+receiverAfter r Untaken asks last b = r
+receiverAfter r ShortFirst asks last b = discarded r asks last
+receiverAfter r ShortLater asks last b = r
+receiverAfter r (Broken c) asks last b = discarded r asks last
+receiverAfter r NoData asks last b = r

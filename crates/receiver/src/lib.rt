@@ -8,7 +8,7 @@ ghost use Prim.Native.Nat.{_+_, _≤_};
 ghost use lib.ListN.{length};
 ghost use Rattle.telegram.specs.Cutting.{longest};
 ghost use mathlib.Core.Bool.{false};
-ghost use Rattle.receiver.specs.Inside.{inOrder, broughtBy, left};
+ghost use Rattle.receiver.specs.Inside.{inOrder, broughtBy, receiverAfter};
 ghost use Rattle.receiver.specs.Receiving.{fresh, waiting, following, settled, kept, numbered, discarded, filled, onData, received, pasted, isUsed, buffered, returned, ackHanded, took};
 use telegram::cutting::LONGEST;
 use telegram::cutting::declared_length;
@@ -311,7 +311,7 @@ impl Receiver {
 
     // The receiver after a first or a later frame, by what became of it.
     fn after(self, note: Receipt, asks: bool, last: bool, brought: Brought) -> Receiver
-        ensures { λ r. ⌜ r ≡ left self note asks last brought ⌝ }
+        ensures { λ r. ⌜ r ≡ receiverAfter self note asks last brought ⌝ }
     {
         let complete = self.complete;
         let none = Message { length: 0 };

@@ -1,10 +1,16 @@
 // Replays the exchange of source 004: opens a channel to the engine control unit, starts a session, reads one block of
-// measuring values, and closes. It prints each frame that it hands over and each message that it takes.
+// measuring values, and closes. It prints each frame that it hands over and each message that it takes, and stops where that
+// cannot be written.
+ghost use mathlib.Core.Path.{_≡_};
 ghost use Prim.Native.Nat.{_≤_};
+ghost use lib.ListN.{length};
+ghost use Rattle.connection.specs.Calls.{takenBy};
 use connection::Connection;
-use connection::Frame;
-use connection::shown;
+use open_end::Frame;
+use open_end::shown;
 use settings::Settings;
+use text::output::Output;
+use text::writing;
 
 // The exchange, one entry after another: what happens, how many bytes follow, and those bytes.
 //     0    a CAN frame arrives: its ID, high byte first, and its data
@@ -25,129 +31,156 @@ const EXCHANGE: [u8; 96] = *b"\
 // The time between two entries, in tenths of a millisecond: the unit wants 10 ms between data frames.
 const PAUSE: u64 = 100;
 
+// What a step leaves: the output, and the record.
+struct Played {
+    output: Output,
+    connection: Connection,
+}
+
 fn main() {
     let mut buffer = [0; 1024];
     let mut settings = Settings::DEFAULT;
     settings.block = 15;
     let opened = Connection::closed().open(settings);
-    let c = hand_over(opened.connection, &[]);
-    let c = play(c, &EXCHANGE, &mut buffer);
+    let begun = hand_over(Output::fresh(), opened.connection, &[]);
+    let played = play(begun, &EXCHANGE, &mut buffer);
+    let c = played.connection;
     let closed = c.close();
-    hand_over(closed.connection, &[]);
+    hand_over(played.output, closed.connection, &[]);
 }
 
-// Plays the entries of an exchange; an entry that is cut off ends it.
-fn play(opened: Connection, exchange: &[u8], buffer: &mut [u8]) -> Connection {
-    let mut c = opened;
+// Plays the entries of an exchange; an entry that is cut off ends it, and so does an output that failed.
+fn play(begun: Played, exchange: &[u8], buffer: &mut [u8]) -> Played {
+    let mut p = begun;
     let mut at = 0;
     while at < exchange.len() {
+        let output = p.output;
+        if output.failed {
+            return p;
+        }
         if exchange.len() - at < 2 {
-            return c;
+            return p;
         }
         let start = at + 2;
         let n = wide(exchange[at + 1]);
         if exchange.len() - start < n {
-            return c;
+            return p;
         }
         let next = start + n;
-        c = step(c, exchange[at], &exchange[start..next], buffer);
+        p = step(
+            output,
+            p.connection,
+            exchange[at],
+            &exchange[start..next],
+            buffer,
+        );
         at = next;
     }
-    c
+    p
 }
 
-fn step(c: Connection, what: u8, entry: &[u8], buffer: &mut [u8]) -> Connection {
+fn step(output: Output, c: Connection, what: u8, entry: &[u8], buffer: &mut [u8]) -> Played {
     if what == 0 {
-        return arrive(c, entry, buffer);
+        return arrive(output, c, entry, buffer);
     }
-    send(c, entry)
+    send(output, c, entry)
 }
 
 // A CAN frame arrives, and a message that it completes is taken.
-fn arrive(c: Connection, entry: &[u8], buffer: &mut [u8]) -> Connection {
+fn arrive(output: Output, c: Connection, entry: &[u8], buffer: &mut [u8]) -> Played {
     if entry.len() < 2 {
-        return c;
+        return Played {
+            output,
+            connection: c,
+        };
     }
     let id = 256 * wide(entry[0]) + wide(entry[1]);
     let arrived = c.arrive(id as u16, &entry[2..], buffer);
-    let used = arrived.connection;
-    let taken = used.take_step(buffer.len());
-    let len = taken.len;
-    if 0 < len {
-        say(b"message");
-        print_bytes(shown(buffer, len));
-        say(b"\n");
+    let taken = take_and_print(output, arrived.connection, buffer);
+    pause(taken.output, taken.connection, &[])
+}
+
+// Takes the complete message, where it lies in the buffer, and prints it.
+fn take_and_print(output: Output, c: Connection, buffer: &[u8]) -> Played
+    ensures { λ r. ⌜ r .connection ≡ takenBy c (length (now (buffer .entry))) .connection ⌝ }
+{
+    let taken = c.take(buffer);
+    print_taken(output, taken.connection, taken.message)
+}
+
+// Prints the message that a take shows, and gives back the record that it leaves.
+fn print_taken(output: Output, connection: Connection, message: &[u8]) -> Played
+    ensures { λ r. ⌜ r .connection ≡ connection ⌝ }
+{
+    Played {
+        output: print_message(output, message),
+        connection,
     }
-    pause(taken.connection, &[])
 }
 
 // A message is sent.
-fn send(c: Connection, message: &[u8]) -> Connection {
+fn send(output: Output, c: Connection, message: &[u8]) -> Played {
     let sent = c.send(message);
-    pause(sent.connection, message)
+    pause(output, sent.connection, message)
 }
 
 // The time between two entries passes, and what is due is handed over.
-fn pause(c: Connection, message: &[u8]) -> Connection {
+fn pause(output: Output, c: Connection, message: &[u8]) -> Played {
     let passed = c.elapse(PAUSE);
-    hand_over(passed.connection, message)
+    hand_over(output, passed.connection, message)
 }
 
 // Hands over what is due, and prints it: never more than this program's exchange can make due at once.
-fn hand_over(opened: Connection, message: &[u8]) -> Connection {
+fn hand_over(begun: Output, opened: Connection, message: &[u8]) -> Played {
+    let mut output = begun;
     let mut c = opened;
-    let mut left: u8 = 4;
-    while 0 < left {
+    let mut turns: u8 = 4;
+    while 0 < turns {
         let due = c.due(message);
         let given = due.given;
         let frame = due.frame;
         let next = due.connection;
         c = next;
         if !given {
-            return c;
+            return Played {
+                output,
+                connection: c,
+            };
         }
-        print_frame(frame);
-        left -= 1;
+        output = print_frame(output, frame);
+        turns -= 1;
     }
-    c
+    Played {
+        output,
+        connection: c,
+    }
 }
 
-fn print_frame(frame: Frame) {
-    let id = frame.id;
-    say(
-        &[
-            digit((id / 256 % 16) as u8),
-            digit((id / 16 % 16) as u8),
-            digit((id % 16) as u8),
-        ],
-    );
+// A frame on a line of its own: its ID, and its data.
+fn print_frame(output: Output, frame: Frame) -> Output {
     let payload = frame.payload;
-    let bytes = payload.bytes;
-    print_bytes(shown(&bytes, payload.len));
-    say(b"\n");
+    let data = payload.bytes;
+    let mut line = [0; 28];
+    let end = writing::id(&mut line, 0, frame.id);
+    let end = writing::pairs(&mut line, end, shown(&data, payload.len));
+    let end = writing::byte(&mut line, end, b'\n');
+    output.say(shown(&line, end))
 }
 
-fn print_bytes(bytes: &[u8]) {
-    let mut i = 0;
-    while i < bytes.len() {
-        let b = bytes[i];
-        say(&[b' ', digit(b / 16), digit(b % 16)]);
-        i += 1;
+// A message on a line of its own; no line for none.
+fn print_message(output: Output, message: &[u8]) -> Output {
+    if message.len() == 0 {
+        return output;
     }
-}
-
-// The hexadecimal digit of a number below 16.
-fn digit(n: u8) -> u8 {
-    let d = n % 16;
-    if d < 10 { 48 + d } else { 55 + d }
+    let mut line = [0; 3080];
+    let end = writing::bytes(&mut line, 0, b"message");
+    let end = writing::pairs(&mut line, end, message);
+    let end = writing::byte(&mut line, end, b'\n');
+    output.say(shown(&line, end))
 }
 
 fn wide(b: u8) -> usize
     ensures { λ r. ⌜ r ≤ 255 ⌝ }
 {
     b as usize
-}
-
-fn say(text: &[u8]) {
-    io::write_all(1, text);
 }

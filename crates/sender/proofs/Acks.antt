@@ -1,20 +1,18 @@
--- What an Ack does, and exactly when.
+-- What an Ack does, case by case, and exactly when.
 use Prim.Native.Nat.{ℕ, _+_, _≤_, _<_}
 use native.Mathlib.Omega.{arith}
-use mathlib.Core.Bool.{Bool, true, false}
+use mathlib.Core.Bool.{Bool, true, false, true≢false}
 use mathlib.Core.Logic.{_↔_, _≢_}
-use mathlib.Core.Path.{_≡_, refl, subst, ap, _∙_}
-use lib.Dec.{leb, eqb}
-use borrow.Author.Tests.{lt-ltb, le-ltb, le-leb, lt-leb, eq-eqb, ne-eqb}
-use Rattle.laws.proofs.Cases.{by, by-lt, by-le, by-eq, same}
-use Rattle.laws.specs.If.{if_then_else_}
+use mathlib.Core.Path.{_≡_, refl, sym, subst, ap, _∙_}
+use borrow.Author.Tests.{le-ltb, le-leb, lt-leb, eq-eqb, ne-eqb}
+use Rattle.laws.proofs.Cases.{by, by-lt, by-le, by-eq}
 use Rattle.telegram.specs.Cutting.{framesOf}
 use Rattle.telegram.specs.declared.kinds.Telegram.the-variants.{Ack}
 use Rattle.sender.specs.declared.Terms.{Terms}
 use Rattle.sender.specs.declared.Sender.{Sender}
 use Rattle.sender.specs.declared.Heard.{Heard}
 use Rattle.sender.specs.declared.Hearing.{Hearing}
-use Rattle.sender.specs.declared.Hearing.the-variants.{Part, Done, Held, Nothing, UsedUp, NoAck}
+use Rattle.sender.specs.declared.Hearing.the-variants.{Part, Done, Held, UsedUp}
 use Rattle.sender.specs.Sending.{distance, onAck, heard, ignored, again, acknowledged, finished, heldFor}
 
 -- an Ack counts: a message is in sending, and no hold runs
@@ -34,14 +32,18 @@ pub record Stalls (s : Sender) (ready : Bool) (number : ℕ) : Type 0 where
   pub none : distance s number ≡ 0
   pub busy : ready ≡ false
 
--- what each answer to an Ack tells
-abbrev pub Told : Terms → Sender → Bool → ℕ → Hearing → Type 0
-Told t s ready number Part = Acknowledges s number × s .acked + distance s number ≢ framesOf (s .length)
-Told t s ready number Done = Acknowledges s number × s .acked + distance s number ≡ framesOf (s .length)
-Told t s ready number Held = Stalls s ready number × s .count < t .repeats
-Told t s ready number Nothing = Unit {0}
-Told t s ready number UsedUp = Stalls s ready number × t .repeats ≤ s .count
-Told t s ready number NoAck = ⊥
+-- what an Ack leaves, and what led to it
+pub data AckCase (t : Terms) (s : Sender) (ready : Bool) (number : ℕ) : Heard → Type 0 where
+  no-message : s .length ≡ 0 → AckCase t s ready number (ignored s)
+  in-hold : 0 < s .length → 0 < s .hold → AckCase t s ready number (ignored s)
+  repeated : Counts s → distance s number ≡ 0 → ready ≡ true → AckCase t s ready number (ignored s)
+  beyond : Counts s → 1 ≤ distance s number → s .high < s .acked + distance s number → AckCase t s ready number (ignored s)
+  ack-used-up : Stalls s ready number → t .repeats ≤ s .count → AckCase t s ready number (record { note = UsedUp; sender = s })
+  held-back : Stalls s ready number → s .count < t .repeats → AckCase t s ready number (record { note = Held; sender = again s (t .«t_wait») (s .gap) })
+  all-acked : Acknowledges s number → s .acked + distance s number ≡ framesOf (s .length)
+      → AckCase t s ready number (record { note = Done; sender = finished s (distance s number) (heldFor t ready) })
+  part-acked : Acknowledges s number → s .acked + distance s number ≢ framesOf (s .length)
+      → AckCase t s ready number (record { note = Part; sender = acknowledged s (distance s number) (heldFor t ready) })
 
 module _ (t : Terms) (s : Sender) (ready : Bool) (number : ℕ) where
   -- the Ack case of a sorted telegram
@@ -49,83 +51,92 @@ module _ (t : Terms) (s : Sender) (ready : Bool) (number : ℕ) where
   unfolding heard
   heard-ack = refl
 
-  -- an Ack answers only what is so
-  pub onAck-told : Told t s ready number (onAck t s ready number .note)
-  unfolding onAck
-  onAck-told =
-      by-eq P (s .length) 0 (λ _. tt)
-      (λ a. by-lt P 0 (s .hold) (λ _. tt)
-      (λ b. let c : Counts s = omega arith in
-      by-eq P (distance s number) 0
-      (λ d. by P ready (λ _. tt) (λ r. by-le P (t .repeats) (s .count) (λ e. (record { counts = c; none = d; busy = r }, e)) (λ e. (record { counts = c; none = d; busy = r }, e))))
-      (λ d. by-lt P (s .high) (s .acked + distance s number) (λ _. tt)
-      (λ w. by-eq P (s .acked + distance s number) (framesOf (s .length)) (λ e. omega arith) (λ e. omega arith)))))
-    where
-      P : Heard → Type 0
-      P h = Told t s ready number (h .note)
+  abbrev Here : Heard → Type 0
+  Here x = AckCase t s ready number x
 
-  -- without a message in sending an Ack changes nothing
+  -- every Ack is one of these cases
+  pub ackCase : AckCase t s ready number (onAck t s ready number)
+  unfolding onAck
+  ackCase =
+      by-eq Here (s .length) 0 no-message λ some.
+      by-lt Here 0 (s .hold) (in-hold (omega arith)) λ free. let c : Counts s = omega arith in
+      by-eq Here (distance s number) 0
+      (λ none. by Here ready (repeated c none) λ busy.
+      let st : Stalls s ready number = record { counts = c; none = none; busy = busy } in
+      by-le Here (t .repeats) (s .count) (ack-used-up st) (held-back st)) λ far.
+      by-lt Here (s .high) (s .acked + distance s number) (beyond c (omega arith)) λ within. let a : Acknowledges s number = omega arith in
+      by-eq Here (s .acked + distance s number) (framesOf (s .length)) (all-acked a) (part-acked a)
+
+  -- an Ack that neither acknowledges nor stalls changes nothing
+  pub onAck-ignored : (Acknowledges s number → ⊥) → (Stalls s ready number → ⊥) → onAck t s ready number ≡ ignored s
+  onAck-ignored acks stalls = go ackCase
+    where
+      go : {x : Heard} → Here x → x ≡ ignored s
+      go (no-message _) = refl
+      go (in-hold _ _) = refl
+      go (repeated _ _ _) = refl
+      go (beyond _ _ _) = refl
+      go (ack-used-up a _) = absurd (stalls a)
+      go (held-back a _) = absurd (stalls a)
+      go (all-acked a _) = absurd (acks a)
+      go (part-acked a _) = absurd (acks a)
+
+  -- so without a message in sending
   pub onAck-idle : s .length ≡ 0 → onAck t s ready number ≡ ignored s
-  unfolding onAck
-  onAck-idle h = rw h
+  onAck-idle h = onAck-ignored (λ a. omega arith) (λ a. omega arith)
 
-  -- nor in a hold
+  -- in a hold
   pub onAck-hold : 0 < s .hold → onAck t s ready number ≡ ignored s
-  unfolding onAck
-  onAck-hold h = rw (lt-ltb 0 (s .hold) h, same)
+  onAck-hold h = onAck-ignored (λ a. omega arith) (λ a. omega arith)
 
-  -- nor beyond the frames ever handed over
+  -- beyond the frames ever handed over
   pub onAck-beyond : s .acked ≤ s .high → s .high < s .acked + distance s number → onAck t s ready number ≡ ignored s
-  unfolding onAck
-  onAck-beyond h k = rw (ne-eqb (distance s number) 0 (omega arith), lt-ltb _ _ k, same, same)
+  onAck-beyond h k = onAck-ignored (λ a. omega arith) (λ a. omega arith)
 
-  -- nor a ready one that acknowledges nothing
+  -- or ready with nothing acknowledged
   pub onAck-repeated : ready ≡ true → distance s number ≡ 0 → onAck t s ready number ≡ ignored s
-  unfolding onAck
-  onAck-repeated r h = rw (r, h) (by-eq P (s .length) 0 (λ _. refl) (λ _. by-lt P 0 (s .hold) (λ _. refl) (λ _. refl)))
-    where
-      P : Heard → Type 0
-      P x = x ≡ ignored s
-
-  -- one that acknowledges frames goes by whether they are the last
-  acknowledges : Acknowledges s number → onAck t s ready number
-      ≡ (if eqb (s .acked + distance s number) (framesOf (s .length)) then record { note = Done; sender = finished s (distance s number) (heldFor t ready) }
-      else record { note = Part; sender = acknowledged s (distance s number) (heldFor t ready) })
-  unfolding onAck
-  acknowledges a = rw (ne-eqb (s .length) 0 (omega arith), le-ltb 0 (s .hold) (omega arith), ne-eqb (distance s number) 0 (omega arith), le-ltb _ _ (a .within))
+  onAck-repeated r h = onAck-ignored (λ a. omega arith) (λ a. true≢false (sym r ∙ a .busy))
 
   -- the last frame acknowledged: the message is done
   pub onAck-last : Acknowledges s number → s .acked + distance s number ≡ framesOf (s .length)
       → onAck t s ready number ≡ record { note = Done; sender = finished s (distance s number) (heldFor t ready) }
-  onAck-last a e = acknowledges a ∙ rw (eq-eqb _ _ e)
+  unfolding onAck
+  onAck-last a e = rw (ne-eqb (s .length) 0 (omega arith), le-ltb 0 (s .hold) (omega arith), ne-eqb (distance s number) 0 (omega arith), le-ltb _ _ (a .within), eq-eqb _ _ e)
 
   -- another frame acknowledged: on from there
   pub onAck-part : Acknowledges s number → s .acked + distance s number ≢ framesOf (s .length)
       → onAck t s ready number ≡ record { note = Part; sender = acknowledged s (distance s number) (heldFor t ready) }
-  onAck-part a e = acknowledges a ∙ rw (ne-eqb _ _ e)
+  unfolding onAck
+  onAck-part a e = rw (ne-eqb (s .length) 0 (omega arith), le-ltb 0 (s .hold) (omega arith), ne-eqb (distance s number) 0 (omega arith), le-ltb _ _ (a .within), ne-eqb _ _ e)
 
   -- any frame acknowledged sets the repeat count to 0
   pub onAck-progress : Acknowledges s number → onAck t s ready number .sender .count ≡ 0
-  onAck-progress a = rw (acknowledges a) (by-eq (λ (h : Heard). h .sender .count ≡ 0) (s .acked + distance s number) (framesOf (s .length)) (λ _. refl) (λ _. refl))
-
-  -- one that stalls goes by the repeats that are left
-  stalls : Stalls s ready number → onAck t s ready number
-      ≡ (if leb (t .repeats) (s .count) then record { note = UsedUp; sender = s } else record { note = Held; sender = again s (t .pause) (s .gap) })
-  unfolding onAck
-  stalls a = rw (ne-eqb (s .length) 0 (omega arith), le-ltb 0 (s .hold) (omega arith), a .none, a .busy)
+  onAck-progress a = by-eq (λ (_ : ℕ). onAck t s ready number .sender .count ≡ 0) (s .acked + distance s number) (framesOf (s .length)) {x = 0} {y = 0} (λ e. rw (onAck-last a e)) (λ e. rw (onAck-part a e))
 
   -- one that stalls adds one to the repeat count and holds the data, while repeats are left
-  pub onAck-held : Stalls s ready number → s .count < t .repeats → onAck t s ready number ≡ record { note = Held; sender = again s (t .pause) (s .gap) }
-  onAck-held a h = stalls a ∙ rw (lt-leb _ _ h)
+  pub onAck-held : Stalls s ready number → s .count < t .repeats → onAck t s ready number ≡ record { note = Held; sender = again s (t .«t_wait») (s .gap) }
+  unfolding onAck
+  onAck-held a h = rw (ne-eqb (s .length) 0 (omega arith), le-ltb 0 (s .hold) (omega arith), a .none, a .busy, lt-leb _ _ h)
 
   -- once more than the repeats allow, it says so and changes nothing
-  pub onAck-lost : Stalls s ready number → t .repeats ≤ s .count → onAck t s ready number ≡ record { note = UsedUp; sender = s }
-  onAck-lost a h = stalls a ∙ rw (le-leb _ _ h)
+  pub onAck-gives-up : Stalls s ready number → t .repeats ≤ s .count → onAck t s ready number ≡ record { note = UsedUp; sender = s }
+  unfolding onAck
+  onAck-gives-up a h = rw (ne-eqb (s .length) 0 (omega arith), le-ltb 0 (s .hold) (omega arith), a .none, a .busy, le-leb _ _ h)
+
+  -- the case of an answer
+  noted : {n : Hearing} → onAck t s ready number .note ≡ n → Here (record { note = n; sender = onAck t s ready number .sender })
+  noted e = subst (λ n. Here (record { note = n; sender = onAck t s ready number .sender })) e ackCase
 
   -- done is answered exactly where the last frame is acknowledged
   pub onAck-done : onAck t s ready number .note ≡ Done ↔ (Acknowledges s number × s .acked + distance s number ≡ framesOf (s .length))
-  onAck-done = (λ e. subst (Told t s ready number) e onAck-told, λ h. ap (λ (x : Heard). x .note) (onAck-last (h .0) (h .1)))
+  onAck-done = (λ e. go (noted e), λ h. ap (λ (x : Heard). x .note) (onAck-last (h .0) (h .1)))
+    where
+      go : {y : Sender} → Here (record { note = Done; sender = y }) → Acknowledges s number × s .acked + distance s number ≡ framesOf (s .length)
+      go (all-acked a e) = (a, e)
 
   -- used up is answered exactly where an Ack stalls and no repeat is left
   pub onAck-usedUp : onAck t s ready number .note ≡ UsedUp ↔ (Stalls s ready number × t .repeats ≤ s .count)
-  onAck-usedUp = (λ e. subst (Told t s ready number) e onAck-told, λ h. ap (λ (x : Heard). x .note) (onAck-lost (h .0) (h .1)))
+  onAck-usedUp = (λ e. go (noted e), λ h. ap (λ (x : Heard). x .note) (onAck-gives-up (h .0) (h .1)))
+    where
+      go : {y : Sender} → Here (record { note = UsedUp; sender = y }) → Stalls s ready number × t .repeats ≤ s .count
+      go (ack-used-up a h) = (a, h)

@@ -1,4 +1,4 @@
--- When a message is accepted.
+-- When a message is accepted, case by case.
 use Prim.Native.Nat.{ℕ, _≤_, _<_}
 use native.Mathlib.Omega.{arith}
 use mathlib.Core.Logic.{_↔_}
@@ -6,7 +6,6 @@ use mathlib.Core.Path.{_≡_, subst, ap}
 use borrow.Author.Tests.{le-ltb, ne-eqb, eqb-true, eqb-false}
 use Rattle.laws.proofs.Cases.{by-not, by-lt, by-eq}
 use Rattle.sender.specs.declared.Sender.{Sender}
-use Rattle.sender.specs.declared.Offer.{Offer}
 use Rattle.sender.specs.declared.Offer.the-variants.{Accepted, Busy, BadLength}
 use Rattle.sender.specs.declared.Offered.{Offered}
 use Rattle.sender.specs.Sending.{idle, offered, accepted}
@@ -17,29 +16,32 @@ pub record Takes (limit : ℕ) (s : Sender) (n : ℕ) : Type 0 where
   pub some : 0 < n
   pub within : n ≤ limit
 
--- what each answer to an offer tells
-abbrev pub Told : (limit : ℕ) → Sender → ℕ → Offer → Type 0
-Told limit s n Accepted = Takes limit s n
-Told limit s n Busy = 0 < s .length
-Told limit s n BadLength = Takes limit s n → ⊥
+-- what an offer leaves, and what led to it
+pub data OfferCase (limit : ℕ) (s : Sender) (n : ℕ) : Offered → Type 0 where
+  unfinished : 0 < s .length → OfferCase limit s n (record { note = Busy; sender = s })
+  no-bytes : s .length ≡ 0 → n ≡ 0 → OfferCase limit s n (record { note = BadLength; sender = s })
+  too-long : s .length ≡ 0 → limit < n → OfferCase limit s n (record { note = BadLength; sender = s })
+  accepts : Takes limit s n → OfferCase limit s n (record { note = Accepted; sender = accepted s n })
 
 module _ (limit : ℕ) (s : Sender) (n : ℕ) where
-  -- an offer is answered only by what is so
-  pub offered-told : Told limit s n (offered limit s n .note)
+  -- every offer is one of these cases
+  pub offerCase : OfferCase limit s n (offered limit s n)
   unfolding offered
-  offered-told =
-      by-not P (idle s) (λ e. let h = eqb-false (s .length) 0 e in omega arith)
-      (λ e. let h = eqb-true (s .length) 0 e in
-      by-eq P n 0 (λ z w. omega arith) (λ z. by-lt P limit n (λ l w. omega arith) (λ l. omega arith)))
-    where
-      P : Offered → Type 0
-      P o = Told limit s n (o .note)
+  offerCase =
+      by-not (OfferCase limit s n) (idle s) (λ e. let some = eqb-false (s .length) 0 e in unfinished (omega arith)) λ e.
+      let free = eqb-true (s .length) 0 e in
+      by-eq (OfferCase limit s n) n 0 (no-bytes free) λ some.
+      by-lt (OfferCase limit s n) limit n (too-long free) λ within. accepts (omega arith)
 
-  -- such a message is accepted
+  -- a message of 1 to limit bytes is accepted
   pub offered-takes : Takes limit s n → offered limit s n ≡ record { note = Accepted; sender = accepted s n }
   unfolding offered
   offered-takes w = rw (w .free, ne-eqb n 0 (omega arith), le-ltb limit n (w .within))
 
   -- and no other
   pub offered-exactly : offered limit s n .note ≡ Accepted ↔ Takes limit s n
-  offered-exactly = (λ e. subst (Told limit s n) e offered-told, λ w. ap (λ (o : Offered). o .note) (offered-takes w))
+  offered-exactly =
+      (λ e. go (subst (λ k. OfferCase limit s n (record { note = k; sender = offered limit s n .sender })) e offerCase), λ w. ap (λ (x : Offered). x .note) (offered-takes w))
+    where
+      go : {y : Sender} → OfferCase limit s n (record { note = Accepted; sender = y }) → Takes limit s n
+      go (accepts w) = w

@@ -1,6 +1,6 @@
 -- Every message goes out as its cutting, and then is done.
 use Prim.Native.Nat.{ℕ, zero, suc, _+_, _%_, _≤_, _<_, max}
-use native.Mathlib.Nat.{add-assoc, add-zero, zero-mod, mod-add-mod, add-mod-right, mod-eq-of-lt, sub-self, zero-sub, le-refl}
+use native.Mathlib.Nat.{add-assoc, add-zero, zero-mod, add-mod-right, mod-eq-of-lt, sub-self, zero-sub, le-refl}
 use native.Mathlib.Numerals.{add-one}
 use native.Mathlib.Omega.{arith}
 use mathlib.Core.Bool.{true, false, or-true}
@@ -22,7 +22,7 @@ use Rattle.sender.specs.declared.Handing.the-variants.{Frame}
 use Rattle.sender.specs.Sending.{resting, accepted, distance, onAck, ignored, advanced, handed, later}
 use Rattle.sender.specs.Writing.{Written, before, answered, turns, written}
 use Rattle.sender.proofs.Offers.{Takes, offered-takes}
-use Rattle.sender.proofs.Numbers.{distance-reaches, firstNumber-true}
+use Rattle.sender.proofs.Numbers.{distance-reaches, oldest-ahead, firstNumber-true}
 use Rattle.sender.proofs.Acks.{Acknowledges, onAck-last, onAck-part}
 use Rattle.sender.proofs.Time.{passed-quiet}
 use Rattle.sender.proofs.Frames.{handed-frame}
@@ -53,20 +53,14 @@ module _ (t : Terms) (m : List ℕ) (o : ℕ) (small : o < 16) (some : 0 < lengt
     turn : (n : ℕ) (note : Hearing) (h : Heard) → answered t m o k (gone a k) ≡ h → h .sender .wait ≡ 0
         → turns t m o (suc n) k (here a k) note ≡ before (getD frames k []) (turns t m o n (k + 1) (later (h .sender) (t .t3)) (h .note))
     unfolding turns
-    turn n note h e w =
-        rw (handed-here, e, passed-quiet t (h .sender) (t .t3) (λ r. omega arith), cutting-at m (t .block) o k more)
+    turn n note h e w = rw (handed-here, e, passed-quiet t (h .sender) (t .t3) (λ r. omega arith), cutting-at m (t .block) o k more)
 
     -- the Ack after it reaches it
     reaches : a + distance (gone a k) ((o + k + 1) % 16) ≡ k + 1
-    reaches =
-        distance-reaches (gone a k) o refl ((o + k + 1) % 16) (k + 1) (ap (λ (n : ℕ). n % 16) (add-assoc o k 1)) (omega arith) window
+    reaches = distance-reaches (gone a k) o refl ((o + k + 1) % 16) (k + 1) (ap (λ (n : ℕ). n % 16) (add-assoc o k 1)) (omega arith) window
 
     acknowledges : Acknowledges (gone a k) ((o + k + 1) % 16)
     acknowledges = let e = reaches in record { counts = record { sending = some; free = refl }; some = omega arith; within = omega arith }
-
-    -- the numbers count on
-    counted : ((o + a) % 16 + distance (gone a k) ((o + k + 1) % 16)) % 16 ≡ (o + (k + 1)) % 16
-    counted = rw (mod-add-mod, add-assoc o a, reaches)
 
     grown : max k (k + 1) ≡ k + 1
     grown = omega arith
@@ -84,14 +78,14 @@ module _ (t : Terms) (m : List ℕ) (o : ℕ) (small : o < 16) (some : 0 < lengt
         → turns t m o (suc n) k (here a k) note ≡ before (getD frames k []) (turns t m o n (k + 1) (here (k + 1) (k + 1)) Part)
     turn-part e p n note =
         turn n note _ (answers e ∙ onAck-part t (gone a k) true ((o + k + 1) % 16) acknowledges (rw reaches p)) refl
-        ∙ rw (counted, reaches, grown, zero-sub, sub-self)
+        ∙ rw (oldest-ahead (gone a k) o refl, reaches, grown, zero-sub, sub-self)
 
     -- after the last frame the message is done
     turn-last : asksAt (t .block) (length m) k ≡ true → k + 1 ≡ framesOf (length m) → (n : ℕ) (note : Hearing)
         → turns t m o (suc n) k (here a k) note ≡ before (getD frames k []) (turns t m o n (k + 1) (resting ((o + (k + 1)) % 16)) Done)
     turn-last e p n note =
         turn n note _ (answers e ∙ onAck-last t (gone a k) true ((o + k + 1) % 16) acknowledges (rw reaches p)) refl
-        ∙ rw (counted, zero-sub, sub-self)
+        ∙ rw (oldest-ahead (gone a k) o refl, reaches, zero-sub, sub-self)
 
   -- what is to come from frame k on: the rest of the cutting, and done
   abbrev rest : ℕ → Written

@@ -5,7 +5,7 @@ use mathlib.Core.List.{List, []}
 use lib.ListN.{length}
 use lib.Dec.{ltb, leb, eqb}
 use Rattle.laws.specs.If.{if_then_else_}
-use Rattle.telegram.specs.Outgoing.{written}
+use Rattle.telegram.specs.Outgoing.{payloadOf}
 use Rattle.telegram.specs.Cutting.{framesOf, asksAt, frameAt}
 use Rattle.telegram.specs.declared.kinds.Telegram.{Telegram}
 use Rattle.telegram.specs.declared.kinds.Telegram.the-variants.{Data, Ack, Test, Break, Disconnect, Setup, Accept, Malformed}
@@ -59,7 +59,7 @@ distance s number = (number % 16 + 16 - s .oldest % 16) % 16
 
 -- "data is held for T_WAIT" by an Ack with RS 0
 abbrev pub heldFor : Terms → Bool → ℕ
-heldFor t ready = if ready then 0 else t .pause
+heldFor t ready = if ready then 0 else t .«t_wait»
 
 -- data goes on from frame k of the message, the oldest unacknowledged one, with number o; no wait runs
 abbrev pub from : Sender → (k o count hold gap : ℕ) → Sender
@@ -89,7 +89,7 @@ onAck t s ready number =
     else if eqb (distance s number) 0 then
     (if ready then ignored s
     else if leb (t .repeats) (s .count) then record { note = UsedUp; sender = s }
-    else record { note = Held; sender = again s (t .pause) (s .gap) })
+    else record { note = Held; sender = again s (t .«t_wait») (s .gap) })
     else if ltb (s .high) (s .acked + distance s number) then ignored s
     else if eqb (s .acked + distance s number) (framesOf (s .length)) then record { note = Done; sender = finished s (distance s number) (heldFor t ready) }
     else record { note = Part; sender = acknowledged s (distance s number) (heldFor t ready) }
@@ -146,7 +146,7 @@ advanced t s =
 
 -- no frame handed over: nothing changes
 abbrev pub noFrame : Sender → Handing → Handed
-noFrame s why = record { note = why; sender = s; payload = written [] }
+noFrame s why = record { note = why; sender = s; payload = payloadOf [] }
 
 -- the frame that is due, of the lent message; row 7 where that is not of the accepted length
 unfoldable pub handed : Terms → Sender → List ℕ → Handed

@@ -4,7 +4,7 @@ use mathlib.Core.Bool.{true}
 use mathlib.Core.List.{List, [], _∷_}
 use lib.ListN.{length}
 use Rattle.laws.specs.If.{if_then_else_}
-use Rattle.telegram.specs.Outgoing.{sent}
+use Rattle.telegram.specs.Outgoing.{bytesOf}
 use Rattle.telegram.specs.Cutting.{framesOf, asksAt}
 use Rattle.sender.specs.declared.Terms.{Terms}
 use Rattle.sender.specs.declared.Sender.{Sender}
@@ -33,7 +33,7 @@ turns t m first zero k s note = record { frames = []; note = note; sender = s }
 turns t m first (suc n) k s note =
     let h = handed t s m in
     let a = answered t m first k (h .sender) in
-    before (sent (h .payload)) (turns t m first n (k + 1) (passed t (a .sender) (t .t3) .sender) (a .note))
+    before (bytesOf (h .payload)) (turns t m first n (k + 1) (passed t (a .sender) (t .t3) .sender) (a .note))
 
 -- a message offered, then as many turns as it has frames
 abbrev pub written : (limit : ℕ) → Terms → Sender → List ℕ → Written

@@ -22,7 +22,7 @@ use telegram::time::less;
 pub struct Terms {
     pub t1: u32,
     pub t3: u32,
-    pub pause: u32,
+    pub t_wait: u32,
     pub block: u8,
     pub repeats: u8,
 }
@@ -232,7 +232,7 @@ impl Sender {
                 self.next = acked;
                 self.count = count + 1;
                 self.wait = 0;
-                self.hold = terms.pause;
+                self.hold = terms.t_wait;
                 return Heard {
                     note: Hearing::Held,
                     sender: self,
@@ -253,7 +253,7 @@ impl Sender {
         self.oldest = ((oldest as u16 + d as u16) % 16) as u8;
         self.count = 0;
         self.wait = 0;
-        self.hold = choose(ready, 0, terms.pause);
+        self.hold = choose(ready, 0, terms.t_wait);
         if reached == frames(length as usize) {
             self.length = 0;
             self.acked = 0;

@@ -3,7 +3,7 @@ ghost use mathlib.Core.Path.{_≡_};
 ghost use Rattle.settings.specs.Settings.{defaults, allowed};
 use telegram::kinds::bad_block;
 
-// Times ending in a code are time codes; the others are tenths of a millisecond.
+// The settings, by the standard's names. T1 and T3 are time codes; T_E, T_WAIT and T_CT are tenths of a millisecond.
 pub struct Settings {
     // Our own receive ID.
     pub receive: u16,
@@ -11,19 +11,22 @@ pub struct Settings {
     pub unit: u8,
     // The block size that we offer.
     pub block: u8,
-    // Codes of the wait for an Ack and of the gap that we want between data frames.
+    // The wait for an Ack.
     pub t1: u8,
+    // The time that we want between data frames.
     pub t3: u8,
-    // T_E: the wait for a reply while opening; and how often each request is repeated (MNTC).
-    pub reply: u16,
-    pub requests: u8,
+    // The wait for a reply while opening.
+    pub t_e: u16,
+    // How often each request of the opening is repeated.
+    pub mntc: u8,
     // The repeats allowed to a block.
-    pub repeats: u8,
-    // T_WAIT: how long a peer that is not ready holds the data back.
-    pub pause: u16,
-    // The test interval; 0 is no tests. And the unanswered tests allowed.
-    pub interval: u16,
-    pub tests: u8,
+    pub mntb: u8,
+    // How long a peer that is not ready holds the data back.
+    pub t_wait: u16,
+    // The test interval; 0 is no tests.
+    pub t_ct: u16,
+    // The unanswered tests allowed.
+    pub mnct: u8,
 }
 
 impl Settings {
@@ -33,12 +36,12 @@ impl Settings {
         block: 15,
         t1: 0x8A,
         t3: 0x32,
-        reply: 1000,
-        requests: 10,
-        repeats: 5,
-        pause: 1000,
-        interval: 10000,
-        tests: 5,
+        t_e: 1000,
+        mntc: 10,
+        mntb: 5,
+        t_wait: 1000,
+        t_ct: 10000,
+        mnct: 5,
     };
 
     // The defaults, for the contracts: a constant of the code has no name there.
@@ -65,13 +68,13 @@ impl Settings {
         if self.t1 % 64 == 0 {
             return false;
         }
-        if self.reply < 1 {
+        if self.t_e < 1 {
             return false;
         }
-        if 10000 < self.reply {
+        if 10000 < self.t_e {
             return false;
         }
-        if self.pause < 1 {
+        if self.t_wait < 1 {
             return false;
         }
         true

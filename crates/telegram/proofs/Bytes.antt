@@ -10,7 +10,7 @@ use lib.Dec.{eqb}
 use lib.ListN.{length, take, drop, getD, length-take, length-drop, List·getD-eq-default}
 use lib.Seq.{getD-drop}
 use Rattle.laws.proofs.Lists.{take-padded}
-use Rattle.telegram.specs.Outgoing.{written}
+use Rattle.telegram.specs.Outgoing.{payloadOf}
 use Rattle.telegram.specs.Cutting.{streamOf, framesOf, headerOf, asksAt, frameAt}
 use Rattle.telegram.specs.declared.payload.Payload.{Payload}
 
@@ -41,7 +41,7 @@ headed-bytes : (m : List ℕ) (head k : ℕ) → _≡_ {A = Payload}
           ∷ getD (streamOf m) (7 * k + 5) 0
           ∷ getD (streamOf m) (7 * k + 6) 0 ∷ [];
     })
-    (written (head ∷ take 7 (drop (7 * k) (streamOf m))))
+    (payloadOf (head ∷ take 7 (drop (7 * k) (streamOf m))))
 headed-bytes m head k = simp (take-padded, getD-drop, add-zero, length-take, length-drop, length-stream, one-add)
 
 -- the same, of what each part was found to be
@@ -54,7 +54,7 @@ pub headed-made : {len a b c d e f g : ℕ} (m : List ℕ) (head k : ℕ)
     → e ≡ getD (streamOf m) (7 * k + 4) 0
     → f ≡ getD (streamOf m) (7 * k + 5) 0
     → g ≡ getD (streamOf m) (7 * k + 6) 0
-    → _≡_ {A = Payload} (record { len = len; bytes = head ∷ a ∷ b ∷ c ∷ d ∷ e ∷ f ∷ g ∷ [] }) (written (head ∷ take 7 (drop (7 * k) (streamOf m))))
+    → _≡_ {A = Payload} (record { len = len; bytes = head ∷ a ∷ b ∷ c ∷ d ∷ e ∷ f ∷ g ∷ [] }) (payloadOf (head ∷ take 7 (drop (7 * k) (streamOf m))))
 headed-made m head k pl pa pb pc pd pe pf pg = rw (pl, pa, pb, pc, pd, pe, pf, pg) (headed-bytes m head k)
 
 -- inside the message each of the seven bytes is one of the message's
@@ -63,7 +63,7 @@ pub headed-inside : (m : List ℕ) (head k b : ℕ) → 7 * k ≡ b + 2 → b + 
       len = 8;
       bytes = head ∷ getD m b 0 ∷ getD m (b + 1) 0 ∷ getD m (b + 2) 0 ∷ getD m (b + 3) 0 ∷ getD m (b + 4) 0 ∷ getD m (b + 5) 0 ∷ getD m (b + 6) 0 ∷ [];
     })
-    (written (head ∷ take 7 (drop (7 * k) (streamOf m))))
+    (payloadOf (head ∷ take 7 (drop (7 * k) (streamOf m))))
 headed-inside m head k b e h =
     headed-made m head k (omega arith) (byte 0 b (omega arith)) (byte 1 (b + 1) (omega arith)) (byte 2 (b + 2) (omega arith)) (byte 3 (b + 3) (omega arith)) (byte 4 (b + 4) (omega arith)) (byte 5 (b + 5) (omega arith)) (byte 6 (b + 6) (omega arith))
   where
@@ -75,7 +75,7 @@ pub frame-made : {count head : ℕ} {asks : Bool} {x : Payload} (m : List ℕ) (
     → count ≡ framesOf (length m)
     → asks ≡ asksAt block (length m) k
     → head ≡ headerOf asks (eqb (k + 1) count) (first + k)
-    → x ≡ written (head ∷ take 7 (drop (7 * k) (streamOf m)))
+    → x ≡ payloadOf (head ∷ take 7 (drop (7 * k) (streamOf m)))
     → x ≡ frameAt m block first k
 unfolding frameAt
 frame-made m block first k pn pq ph px = rw (px, ph, pq, pn)

@@ -11,10 +11,10 @@ use lib.ListN.{length, take, drop, getD, length-drop, length-map, take-append-dr
 use lib.Seq.{drop-nil, drop-drop}
 use borrow.Author.Tests.{ne-eqb}
 use Rattle.laws.proofs.Cuts.{by-pieces}
-use Rattle.telegram.specs.Outgoing.{sent}
+use Rattle.telegram.specs.Outgoing.{bytesOf}
 use Rattle.telegram.specs.Cutting.{streamOf, framesOf, headerOf, frameAt, sevens, headed, cutting}
 use Rattle.telegram.specs.Published.{Published}
-use Rattle.telegram.proofs.RoundTrip.{frame-sent, frame-length, frame-size, frame-full, frame-sorted, stream-declares, stream-carries}
+use Rattle.telegram.proofs.RoundTrip.{frame-back, frame-length, frame-size, frame-full, frame-sorted, stream-declares, stream-carries}
 
 -- sevens
 
@@ -92,10 +92,10 @@ cutting-length m block first =
     sym (length-map (cutting m block first) (drop 1)) ∙ ap length (headed-joined block 1 first (sevens (streamOf m))) ∙ pieces-length m
 
 -- the cutting has at each place the frame of that place
-pub cutting-at : (m : List ℕ) (block first k : ℕ) → k < framesOf (length m) → getD (cutting m block first) k [] ≡ sent (frameAt m block first k)
+pub cutting-at : (m : List ℕ) (block first k : ℕ) → k < framesOf (length m) → getD (cutting m block first) k [] ≡ bytesOf (frameAt m block first k)
 cutting-at m block first k h =
     let e = pieces-length m in
-    rw (frame-sent, headed-at block 1 first (sevens (streamOf m)) k (omega arith), e, sevens-at, add-comm 1 k, ← add-one k)
+    rw (frame-back, headed-at block 1 first (sevens (streamOf m)) k (omega arith), e, sevens-at, add-comm 1 k, ← add-one k)
 
 -- the frames of the cutting without their first bytes, joined, are the length bytes and the message
 pub cutting-joined : (m : List ℕ) (block first : ℕ) → flatten (map (drop 1) (cutting m block first)) ≡ streamOf m

@@ -9,7 +9,7 @@ use lib.Dec.{eqb}
 use lib.ListN.{length, take, drop, getD, replicate, length-append, length-take, length-drop}
 use lib.Seq.{take-take, take-append-seam}
 use borrow.Author.Tests.{le-leb}
-use Rattle.telegram.specs.Outgoing.{written, sent}
+use Rattle.telegram.specs.Outgoing.{payloadOf, bytesOf}
 use Rattle.telegram.specs.Kinds.{kindOf, sorted, ackOf, testOf, disconnectOf, setupOf, acceptOf}
 use Rattle.telegram.specs.Cutting.{declaredOf, streamOf, framesOf, headerOf, lastAt, asksAt, frameAt}
 use Rattle.telegram.specs.declared.kinds.Parameters.{Parameters}
@@ -18,12 +18,8 @@ use Rattle.telegram.specs.declared.kinds.Telegram.the-variants.{Data, Ac
 -- written
 
 -- at most eight bytes reach the bus as they were written
-pub written-sent : (s : List ℕ) → length s ≤ 8 → sent (written s) ≡ s
-written-sent s h = take-take (length s) 8 _ h ∙ take-append-seam s (replicate 8 0)
-
--- whatever is written, the eight bytes are eight
-pub written-bytes : (s : List ℕ) → length ((written s) .bytes) ≡ 8
-written-bytes s = simp (length-take, length-append) (omega arith)
+pub payload-back : (s : List ℕ) → length s ≤ 8 → bytesOf (payloadOf s) ≡ s
+payload-back s h = take-take (length s) 8 _ h ∙ take-append-seam s (replicate 8 0)
 
 -- the kinds
 
@@ -45,36 +41,36 @@ upper-ack q r f g h =
     rw (b .bits7-6 ∙ f, b .bits7-4, g, b .bits7-5, b .bits3-0)
 
 -- an Ack is sorted as an Ack that says the same, ready or not, and the same number
-pub ack-sorted : (ready : Bool) (n : ℕ) → n < 16 → sorted (sent (ackOf ready n)) ≡ record { kind = Ack ready n }
+pub ack-sorted : (ready : Bool) (n : ℕ) → n < 16 → sorted (bytesOf (ackOf ready n)) ≡ record { kind = Ack ready n }
 ack-sorted true n h = rw (mod-eq-of-lt h) (upper-ack 11 n refl refl h)
 ack-sorted false n h = rw (mod-eq-of-lt h) (upper-ack 9 n refl refl h)
 
 -- a test is sorted as a test
-pub test-sorted : sorted (sent testOf) ≡ record { kind = Test }
+pub test-sorted : sorted (bytesOf testOf) ≡ record { kind = Test }
 unfolding kindOf
 test-sorted = refl
 
 -- a disconnect is sorted as a disconnect
-pub disconnect-sorted : sorted (sent disconnectOf) ≡ record { kind = Disconnect }
+pub disconnect-sorted : sorted (bytesOf disconnectOf) ≡ record { kind = Disconnect }
 unfolding kindOf
 disconnect-sorted = refl
 
 -- an A0 is sorted as an A0 with the same fields, whatever they are
-pub setup-sorted : (p : Parameters) → sorted (sent (setupOf p)) ≡ record { kind = Setup p }
+pub setup-sorted : (p : Parameters) → sorted (bytesOf (setupOf p)) ≡ record { kind = Setup p }
 unfolding kindOf
 setup-sorted p = refl
 
 -- an A1 is sorted as an A1 with the same fields, whatever they are
-pub accept-sorted : (p : Parameters) → sorted (sent (acceptOf p)) ≡ record { kind = Accept p }
+pub accept-sorted : (p : Parameters) → sorted (bytesOf (acceptOf p)) ≡ record { kind = Accept p }
 unfolding kindOf
 accept-sorted p = refl
 
 -- Ack, test and disconnect have one byte
-pub single-length : (ready : Bool) (n : ℕ) → (length (sent (ackOf ready n)) ≡ 1) × (length (sent testOf) ≡ 1) × (length (sent disconnectOf) ≡ 1)
+pub single-length : (ready : Bool) (n : ℕ) → (length (bytesOf (ackOf ready n)) ≡ 1) × (length (bytesOf testOf) ≡ 1) × (length (bytesOf disconnectOf) ≡ 1)
 single-length ready n = (refl, refl, refl)
 
 -- A0 and A1 have six bytes
-pub parameters-length : (p : Parameters) → (length (sent (setupOf p)) ≡ 6) × (length (sent (acceptOf p)) ≡ 6)
+pub parameters-length : (p : Parameters) → (length (bytesOf (setupOf p)) ≡ 6) × (length (bytesOf (acceptOf p)) ≡ 6)
 parameters-length p = (refl, refl)
 
 -- data
@@ -98,40 +94,35 @@ header-sorted false false n p = upper-data 2 (n % 16) p (omega arith) (omega ari
 
 module _ (m : List ℕ) (block first k : ℕ) where
   -- a frame reaches the bus as its first byte and its seven of the stream
-  pub frame-sent : sent (frameAt m block first k) ≡ headerOf (asksAt block (length m) k) (lastAt (length m) k) (first + k) ∷ take 7 (drop (7 * k) (streamOf m))
+  pub frame-back : bytesOf (frameAt m block first k) ≡ headerOf (asksAt block (length m) k) (lastAt (length m) k) (first + k) ∷ take 7 (drop (7 * k) (streamOf m))
   unfolding frameAt
-  frame-sent = written-sent _ (simp length-take (omega arith))
+  frame-back = payload-back _ (simp length-take (omega arith))
 
   -- behind its first byte stand its seven of the stream
-  pub frame-carries : drop 1 (sent (frameAt m block first k)) ≡ take 7 (drop (7 * k) (streamOf m))
-  frame-carries = ap (drop 1) frame-sent
-
-  -- the eight bytes of a frame are eight
-  pub frame-bytes : length ((frameAt m block first k) .bytes) ≡ 8
-  unfolding frameAt
-  frame-bytes = rw written-bytes
+  pub frame-carries : drop 1 (bytesOf (frameAt m block first k)) ≡ take 7 (drop (7 * k) (streamOf m))
+  frame-carries = ap (drop 1) frame-back
 
   -- a frame has its first byte and at most seven of what is left of the stream
-  pub frame-length : length (sent (frameAt m block first k)) ≡ 1 + min 7 (length m + 2 - 7 * k)
+  pub frame-length : length (bytesOf (frameAt m block first k)) ≡ 1 + min 7 (length m + 2 - 7 * k)
   unfolding streamOf
-  frame-length = rw frame-sent (simp (length-take, length-drop) (omega arith))
+  frame-length = rw frame-back (simp (length-take, length-drop) (omega arith))
 
   -- every frame but the last has eight bytes
-  pub frame-full : k + 1 < framesOf (length m) → length (sent (frameAt m block first k)) ≡ 8
+  pub frame-full : k + 1 < framesOf (length m) → length (bytesOf (frameAt m block first k)) ≡ 8
   unfolding framesOf
   frame-full h = rw frame-length (omega arith)
 
   -- every frame has two to eight bytes
-  pub frame-size : k < framesOf (length m) → (2 ≤ length (sent (frameAt m block first k))) × (length (sent (frameAt m block first k)) ≤ 8)
+  pub frame-size : k < framesOf (length m) → (2 ≤ length (bytesOf (frameAt m block first k))) × (length (bytesOf (frameAt m block first k)) ≤ 8)
   unfolding framesOf
   frame-size h = rw frame-length (omega arith)
 
   -- every frame is sorted as data that asks and ends as its place says, with the number that its place says
   pub frame-sorted : k < framesOf (length m)
-      → sorted (sent (frameAt m block first k)) ≡ record { kind = Data (asksAt block (length m) k) (lastAt (length m) k) ((first + k) % 16) }
+      → sorted (bytesOf (frameAt m block first k)) ≡ record { kind = Data (asksAt block (length m) k) (lastAt (length m) k) ((first + k) % 16) }
   frame-sorted h =
-      let b = rw frame-sent at (frame-size h) in
-      rw frame-sent (header-sorted _ _ (first + k) _ (omega arith) (omega arith))
+      let b = rw frame-back at (frame-size h) in
+      rw frame-back (header-sorted _ _ (first + k) _ (omega arith) (omega arith))
 
 -- the first two bytes of the stream declare the length of any message that two bytes can tell
 pub stream-declares : (m : List ℕ) → length m < 65536 → declaredOf (getD (streamOf m) 0 0) (getD (streamOf m) 1 0) ≡ length m

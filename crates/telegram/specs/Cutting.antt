@@ -5,7 +5,7 @@ use mathlib.Core.List.{List, [], _∷_}
 use lib.ListN.{length, take, drop}
 use lib.Dec.{eqb}
 use Rattle.laws.specs.If.{if_then_else_}
-use Rattle.telegram.specs.Outgoing.{written}
+use Rattle.telegram.specs.Outgoing.{payloadOf}
 use Rattle.telegram.specs.declared.payload.Payload.{Payload}
 
 -- the longest message, in bytes
@@ -39,7 +39,7 @@ asksAt block n k = eqb ((k + 1) % block) 0 || lastAt n k
 -- the frame behind k others of the message m
 unfoldable pub frameAt : List ℕ → (block first k : ℕ) → Payload
 frameAt m block first k =
-    written (headerOf (asksAt block (length m) k) (lastAt (length m) k) (first + k) ∷ take 7 (drop (7 * k) (streamOf m)))
+    payloadOf (headerOf (asksAt block (length m) k) (lastAt (length m) k) (first + k) ∷ take 7 (drop (7 * k) (streamOf m)))
 
 -- "cut in sevens; the last frame may be shorter"
 unfoldable pub sevens : List ℕ → List (List ℕ)

@@ -5,7 +5,7 @@ use mathlib.Core.List.{List, [], _∷_}
 use lib.ListN.{length, getD}
 use lib.Dec.{leb, ltb, eqb}
 use Rattle.laws.specs.If.{if_then_else_}
-use Rattle.telegram.specs.Outgoing.{written}
+use Rattle.telegram.specs.Outgoing.{payloadOf}
 use Rattle.telegram.specs.declared.payload.Payload.{Payload}
 use Rattle.telegram.specs.declared.kinds.Parameters.{Parameters}
 use Rattle.telegram.specs.declared.kinds.Sorted.{Sorted}
@@ -54,20 +54,20 @@ sorted s = record { kind = kindOf s (getD s 0 0) }
 
 -- an Ack: 1 0 RS 1 number
 abbrev pub ackOf : Bool → ℕ → Payload
-ackOf ready n = written (((if ready then 0xB0 else 0x90) + n % 16) ∷ [])
+ackOf ready n = payloadOf (((if ready then 0xB0 else 0x90) + n % 16) ∷ [])
 
 -- test: A3
 abbrev pub testOf : Payload
-testOf = written (0xA3 ∷ [])
+testOf = payloadOf (0xA3 ∷ [])
 
 -- disconnect: A8
 abbrev pub disconnectOf : Payload
-disconnectOf = written (0xA8 ∷ [])
+disconnectOf = payloadOf (0xA8 ∷ [])
 
 -- A0, block size, T1, FF, T3, FF
 abbrev pub setupOf : Parameters → Payload
-setupOf p = written (0xA0 ∷ p .block ∷ p .t1 ∷ 0xFF ∷ p .t3 ∷ 0xFF ∷ [])
+setupOf p = payloadOf (0xA0 ∷ p .block ∷ p .t1 ∷ 0xFF ∷ p .t3 ∷ 0xFF ∷ [])
 
 -- A1 with the same fields
 abbrev pub acceptOf : Parameters → Payload
-acceptOf p = written (0xA1 ∷ p .block ∷ p .t1 ∷ 0xFF ∷ p .t3 ∷ 0xFF ∷ [])
+acceptOf p = payloadOf (0xA1 ∷ p .block ∷ p .t1 ∷ 0xFF ∷ p .t3 ∷ 0xFF ∷ [])

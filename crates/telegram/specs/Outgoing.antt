@@ -5,9 +5,9 @@ use lib.ListN.{length, take, replicate}
 use Rattle.telegram.specs.declared.payload.Payload.{Payload}
 
 -- the payload of at most eight bytes
-abbrev pub written : List ℕ → Payload
-written s = record { len = length s; bytes = take 8 (s ++ replicate 8 0) }
+abbrev pub payloadOf : List ℕ → Payload
+payloadOf s = record { len = length s; bytes = take 8 (s ++ replicate 8 0) }
 
 -- the bytes that a payload puts on the bus
-abbrev pub sent : Payload → List ℕ
-sent p = take (p .len) (p .bytes)
+abbrev pub bytesOf : Payload → List ℕ
+bytesOf p = take (p .len) (p .bytes)

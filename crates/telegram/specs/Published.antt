@@ -3,7 +3,7 @@ use Prim.Native.Nat.{ℕ, _+_, _%_, _≤_, _<_}
 use mathlib.Core.List.{List, [], map, flatten}
 use mathlib.Core.Path.{_≡_}
 use lib.ListN.{length, drop, getD}
-use Rattle.telegram.specs.Outgoing.{sent}
+use Rattle.telegram.specs.Outgoing.{bytesOf}
 use Rattle.telegram.specs.Kinds.{sorted}
 use Rattle.telegram.specs.Cutting.{declaredOf, streamOf, framesOf, lastAt, asksAt, frameAt, cutting}
 use Rattle.telegram.specs.declared.kinds.Telegram.the-variants.{Data}
@@ -27,4 +27,4 @@ pub record Published (m : List ℕ) (block first : ℕ) : Type 0 where
   -- "Frame number counts on modulo 16", "EOM on the last", "AR on every frame whose place in the message (from 1) is a multiple of the block size, and on the last"
   pub kinds : (k : ℕ) → k < framesOf (length m) → sorted (getD (cutting m block first) k []) ≡ record { kind = Data (asksAt block (length m) k) (lastAt (length m) k) ((first + k) % 16) }
   -- "A repeated frame has the same bytes as at first": each is `frameAt` of its place, which the code gives at every call
-  pub frames : (k : ℕ) → k < framesOf (length m) → getD (cutting m block first) k [] ≡ sent (frameAt m block first k)
+  pub frames : (k : ℕ) → k < framesOf (length m) → getD (cutting m block first) k [] ≡ bytesOf (frameAt m block first k)

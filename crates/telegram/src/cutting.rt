@@ -5,7 +5,7 @@ ghost use mathlib.Core.List.{_∷_};
 ghost use lib.Dec.{ltb};
 ghost use lib.ListN.{length, take, drop, getD};
 ghost use Rattle.laws.specs.If.{if_then_else_};
-ghost use Rattle.telegram.specs.Outgoing.{written};
+ghost use Rattle.telegram.specs.Outgoing.{payloadOf};
 ghost use Rattle.telegram.specs.Cutting.{framesOf, streamOf, headerOf, asksAt, frameAt, declaredOf, longest};
 use crate::payload::Payload;
 
@@ -127,7 +127,7 @@ fn piece_start(at: usize, len: usize) -> usize
 // The telegram behind `place` others of a message, with its first byte. All but the first and the last take seven bytes of the
 // message: those are read with one test for all of them.
 fn headed(message: &[u8], head: u8, place: u16) -> Payload
-    ensures { λ r. ⌜ r ≡ written (head ∷ take 7 (drop (7 * place) (streamOf (now (message .entry))))) ⌝ }
+    ensures { λ r. ⌜ r ≡ payloadOf (head ∷ take 7 (drop (7 * place) (streamOf (now (message .entry))))) ⌝ }
 {
     let b = piece_start(7 * (place as usize), message.len());
     if message.len() < b + 7 {
@@ -150,7 +150,7 @@ fn headed(message: &[u8], head: u8, place: u16) -> Payload
 
 // The same at any place, each byte read by itself.
 fn headed_end(message: &[u8], head: u8, place: u16) -> Payload
-    ensures { λ r. ⌜ r ≡ written (head ∷ take 7 (drop (7 * place) (streamOf (now (message .entry))))) ⌝ }
+    ensures { λ r. ⌜ r ≡ payloadOf (head ∷ take 7 (drop (7 * place) (streamOf (now (message .entry))))) ⌝ }
 {
     let size = message.len() + 2;
     Payload {

@@ -11,8 +11,6 @@
 //     w  a telegram is written: its opcode, and what it carries
 //     c  a frame is cut: block size, first number, how many frames stand before it, and the message
 //     z  the same of 1,024 zeros
-ghost use Prim.Native.Nat.{_<_};
-ghost use Rattle.io.specs.Counts.{Counts};
 use opening::Reply;
 use opening::Request;
 use telegram::cutting;
@@ -22,6 +20,10 @@ use telegram::kinds::Sorted;
 use telegram::kinds::Telegram;
 use telegram::payload::Payload;
 use telegram::time;
+use text::output::Output;
+use text::reading;
+use text::reading::Bytes;
+use text::writing;
 
 fn main() {
     let mut text = io::large_buffer();
@@ -29,79 +31,73 @@ fn main() {
     lines(&text[..n]);
 }
 
+// Answers line by line, until one cannot be written.
 fn lines(text: &[u8]) {
+    let mut output = Output::fresh();
     let mut at = 0;
     while at < text.len() {
         let end = bytes::scan::find(text, at, text.len(), b'\n');
-        line(&text[at..end]);
+        output = line(output, &text[at..end]);
+        if output.failed {
+            return;
+        }
         at = end + 1;
     }
 }
 
-fn line(text: &[u8]) {
+fn line(output: Output, text: &[u8]) -> Output {
     let colon = bytes::scan::find(text, 0, text.len(), b':');
     if colon < 2 {
-        return;
+        return output;
     }
     if text.len() <= colon {
-        return;
+        return output;
     }
     let rest = colon + 1;
-    say(&text[2..rest]);
+    let mut found = [0u8; 256];
+    let at = writing::bytes(&mut found, 0, &text[2..rest]);
+    let at = run(&mut found, at, text[0], &text[rest..]);
+    let end = writing::byte(&mut found, at, b'\n');
+    output.say(reading::part(&found, 0, end))
+}
+
+// Runs a value of pairs of digits.
+fn run(text: &mut [u8], at: usize, what: u8, pairs: &[u8]) -> usize {
     let mut value = [0u8; 32];
-    let n = read(&text[rest..], &mut value);
-    run(text[0], &value[..n]);
-    say(b"\n");
+    let Bytes::Count(n) = reading::pairs(pairs, &mut value) else {
+        return writing::bytes(text, at, b" no bytes");
+    };
+    found(text, at, what, reading::part(&value, 0, n))
 }
 
-// Bytes of a space and two digits each; the answer is how many.
-fn read(text: &[u8], value: &mut [u8]) -> usize
-    ensures { λ r. ⌜ Counts r (now (value .exit)) ⌝ }
-{
-    let mut n = 0;
-    while n < value.len() {
-        if text.len() / 3 <= n {
-            return n;
-        }
-        let at = 3 * n;
-        value[n] = 16 * digit(text[at + 1]) + digit(text[at + 2]);
-        n += 1;
-    }
-    n
-}
-
-fn digit(c: u8) -> u8
-    ensures { λ r. ⌜ r < 16 ⌝ }
-{
-    if c <= b'9' {
-        return c % 16;
-    }
-    (c - 55) % 16
-}
-
-fn run(what: u8, s: &[u8]) {
+fn found(text: &mut [u8], at: usize, what: u8, s: &[u8]) -> usize {
     match what {
-        b't' => number(time::tenths(at(s, 0)) as u64),
-        b'm' => number(cutting::limit() as u64),
-        b'f' => number(cutting::frames(pair(s) as usize) as u64),
-        b'l' => number(pair(s) as u64),
-        b's' => sorted(kinds::sort(s)),
-        b'q' => request(opening::read_request(s)),
-        b'r' => reply(opening::read_reply(behind(s, 2), pair(s))),
-        b'w' => payload(write(s)),
-        b'c' => payload(cutting::frame(behind(s, 3), at(s, 0), at(s, 1), at(s, 2) as u16)),
-        _ => payload(cutting::frame(&[0u8; 1024], at(s, 0), at(s, 1), at(s, 2) as u16)),
+        b't' => number(text, at, time::tenths(byte_at(s, 0)) as u64),
+        b'm' => number(text, at, cutting::limit() as u64),
+        b'f' => number(text, at, cutting::frames(pair(s) as usize) as u64),
+        b'l' => number(text, at, pair(s) as u64),
+        b's' => sorted(text, at, kinds::sort(s)),
+        b'q' => request(text, at, opening::read_request(s)),
+        b'r' => reply(text, at, opening::read_reply(behind(s, 2), pair(s))),
+        b'w' => payload(text, at, write(s)),
+        b'c' => payload(text, at, cut(behind(s, 3), s)),
+        _ => payload(text, at, cut(&[0u8; 1024], s)),
     }
+}
+
+// A frame of a message: block size, first number, and how many frames stand before it.
+fn cut(message: &[u8], s: &[u8]) -> Payload {
+    cutting::frame(message, byte_at(s, 0), byte_at(s, 1), byte_at(s, 2) as u16)
 }
 
 // Zero past the end.
-fn at(s: &[u8], i: usize) -> u8 {
+fn byte_at(s: &[u8], i: usize) -> u8 {
     if i < s.len() { s[i] } else { 0 }
 }
 
 // The number that the first two bytes make, high first.
 fn pair(s: &[u8]) -> u16 {
-    cutting::declared_length(at(s, 0), at(s, 1))
+    cutting::declared_length(byte_at(s, 0), byte_at(s, 1))
 }
 
 fn behind(s: &[u8], i: usize) -> &[u8] {
@@ -113,58 +109,45 @@ fn behind(s: &[u8], i: usize) -> &[u8] {
 
 fn write(s: &[u8]) -> Payload {
     let p = Parameters {
-        block: at(s, 1),
-        t1: at(s, 2),
-        t3: at(s, 3),
+        block: byte_at(s, 1),
+        t1: byte_at(s, 2),
+        t3: byte_at(s, 3),
     };
-    match at(s, 0) {
-        0x90 => kinds::write_ack(false, at(s, 1)),
-        0xB0 => kinds::write_ack(true, at(s, 1)),
+    match byte_at(s, 0) {
+        0x90 => kinds::write_ack(false, byte_at(s, 1)),
+        0xB0 => kinds::write_ack(true, byte_at(s, 1)),
         0xA0 => kinds::write_setup(p),
         0xA1 => kinds::write_accept(p),
         0xA3 => kinds::write_test(),
         0xA8 => kinds::write_disconnect(),
-        0xC0 => opening::write_request(at(s, 1), pair(behind(s, 2))),
+        0xC0 => opening::write_request(byte_at(s, 1), pair(behind(s, 2))),
         opcode => opening::write_reply(opcode, pair(behind(s, 1)), pair(behind(s, 3))),
     }
 }
 
-fn say(text: &[u8]) {
-    io::write_all(1, text);
+fn number(text: &mut [u8], at: usize, n: u64) -> usize {
+    let at = writing::byte(text, at, b' ');
+    writing::decimal(text, at, n)
 }
 
-fn number(n: u64) {
-    say(b" ");
-    io::print_decimal(1, n);
-}
-
-fn flag(set: bool, text: &[u8]) {
+fn flag(text: &mut [u8], at: usize, set: bool, name: &[u8]) -> usize {
     if set {
-        say(text);
+        return writing::bytes(text, at, name);
     }
+    at
 }
 
-fn glyph(n: u8) -> u8 {
-    let d = n % 16;
-    if d < 10 { 48 + d } else { 55 + d }
+fn byte(text: &mut [u8], at: usize, b: u8) -> usize {
+    let at = writing::byte(text, at, b' ');
+    writing::pair(text, at, b)
 }
 
-fn byte(b: u8) {
-    say(&[b' ', glyph(b / 16), glyph(b)]);
+fn id(text: &mut [u8], at: usize, i: u16) -> usize {
+    let at = writing::byte(text, at, b' ');
+    writing::id(text, at, i)
 }
 
-fn id(i: u16) {
-    say(
-        &[
-            b' ',
-            glyph((i / 256 % 16) as u8),
-            glyph((i / 16 % 16) as u8),
-            glyph((i % 16) as u8),
-        ],
-    );
-}
-
-fn sorted(t: Sorted) {
+fn sorted(text: &mut [u8], at: usize, t: Sorted) -> usize {
     let kind = t.kind;
     match kind {
         Telegram::Data {
@@ -172,83 +155,68 @@ fn sorted(t: Sorted) {
             last,
             number: n,
         } => {
-            say(b" data, number");
-            number(n as u64);
-            flag(asks, b", asks for an Ack");
-            flag(last, b", last");
+            let at = writing::bytes(text, at, b" data, number");
+            let at = number(text, at, n as u64);
+            let at = flag(text, at, asks, b", asks for an Ack");
+            flag(text, at, last, b", last")
         }
         Telegram::Ack { ready, number: n } => {
-            say(b" Ack, number");
-            number(n as u64);
-            flag(ready, b", ready");
-            flag(!ready, b", not ready");
+            let at = writing::bytes(text, at, b" Ack, number");
+            let at = number(text, at, n as u64);
+            let at = flag(text, at, ready, b", ready");
+            flag(text, at, !ready, b", not ready")
         }
-        Telegram::Test => say(b" test"),
-        Telegram::Break => say(b" break"),
-        Telegram::Disconnect => say(b" disconnect"),
+        Telegram::Test => writing::bytes(text, at, b" test"),
+        Telegram::Break => writing::bytes(text, at, b" break"),
+        Telegram::Disconnect => writing::bytes(text, at, b" disconnect"),
         Telegram::Setup(p) => {
-            say(b" set-up");
-            parameters(p);
+            let at = writing::bytes(text, at, b" set-up");
+            parameters(text, at, p)
         }
         Telegram::Accept(p) => {
-            say(b" acceptance");
-            parameters(p);
+            let at = writing::bytes(text, at, b" acceptance");
+            parameters(text, at, p)
         }
-        Telegram::Malformed => say(b" malformed"),
+        Telegram::Malformed => writing::bytes(text, at, b" malformed"),
     }
 }
 
-fn parameters(p: Parameters) {
-    say(b", block size");
-    number(p.block as u64);
-    say(b", T1");
-    byte(p.t1);
-    say(b", T3");
-    byte(p.t3);
+fn parameters(text: &mut [u8], at: usize, p: Parameters) -> usize {
+    let at = writing::bytes(text, at, b", block size");
+    let at = number(text, at, p.block as u64);
+    let at = writing::bytes(text, at, b", T1");
+    let at = byte(text, at, p.t1);
+    let at = writing::bytes(text, at, b", T3");
+    byte(text, at, p.t3)
 }
 
-fn request(r: Request) {
+fn request(text: &mut [u8], at: usize, r: Request) -> usize {
     match r {
         Request::Open { unit, receive } => {
-            say(b" unit");
-            byte(unit);
-            say(b", receive ID");
-            id(receive);
+            let at = writing::bytes(text, at, b" unit");
+            let at = byte(text, at, unit);
+            let at = writing::bytes(text, at, b", receive ID");
+            id(text, at, receive)
         }
-        Request::Malformed => say(b" malformed"),
+        Request::Malformed => writing::bytes(text, at, b" malformed"),
     }
 }
 
-fn reply(r: Reply) {
+fn reply(text: &mut [u8], at: usize, r: Reply) -> usize {
     match r {
         Reply::Positive(transmit) => {
-            say(b" positive, transmit ID");
-            id(transmit);
+            let at = writing::bytes(text, at, b" positive, transmit ID");
+            id(text, at, transmit)
         }
         Reply::Refused(opcode) => {
-            say(b" refused by");
-            byte(opcode);
+            let at = writing::bytes(text, at, b" refused by");
+            byte(text, at, opcode)
         }
-        Reply::Malformed => say(b" malformed"),
+        Reply::Malformed => writing::bytes(text, at, b" malformed"),
     }
 }
 
-fn payload(p: Payload) {
-    let n = p.len;
-    let b = p.bytes;
-    put(n, 0, b[0]);
-    put(n, 1, b[1]);
-    put(n, 2, b[2]);
-    put(n, 3, b[3]);
-    put(n, 4, b[4]);
-    put(n, 5, b[5]);
-    put(n, 6, b[6]);
-    put(n, 7, b[7]);
-}
-
-// The byte at i of n.
-fn put(n: usize, i: usize, b: u8) {
-    if i < n {
-        byte(b);
-    }
+fn payload(text: &mut [u8], at: usize, p: Payload) -> usize {
+    let bytes = p.bytes;
+    writing::pairs(text, at, reading::part(&bytes, 0, p.len))
 }

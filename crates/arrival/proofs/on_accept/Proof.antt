@@ -10,9 +10,9 @@ on-accept-spec =
     tie.close
     (tie.spec
     (λ c κs. search needs)
-    (λ c. search branches depth 40 fits 8000)
+    (λ c. search branches)
     (λ c κs. search needs)
     (λ c κs. search needs)
-    (λ c. rw (c .answered2 .ensures, ← c .before .before .bad-block .ensures, c .before .before .before .if1 .left, c .before .if2 .taken))
+    (λ c. search branches)
     (λ c κs. search needs)
-    (λ c. rw (c .answered3 .ensures, ← c .before .before .bad-block .ensures, c .before .before .before .if1 .left, c .before .if2 .left)))
+    (λ c. search branches))

@@ -7,10 +7,10 @@ pub outcome-spec : {M : Type 1} → statement M
 outcome-spec =
     tie.close
     (tie.spec
-    (λ c. rw filled-notes (search branches depth 40 fits 8000))
-    (λ c. rw filled-notes (search branches depth 40 fits 8000))
-    (λ c. rw filled-notes (search branches depth 40 fits 8000))
-    (λ c. rw filled-notes (search branches depth 40 fits 8000))
-    (λ c. rw filled-notes (search branches depth 40 fits 8000))
-    (λ c. rw filled-notes (search branches depth 40 fits 8000))
-    (λ c. rw filled-notes (search branches depth 40 fits 8000)))
+    (λ c. rw filled-notes (search branches))
+    (λ c. rw filled-notes (search branches))
+    (λ c. rw filled-notes (search branches))
+    (λ c. rw filled-notes (search branches))
+    (λ c. rw filled-notes (search branches))
+    (λ c. rw filled-notes (search branches))
+    (λ c. rw filled-notes (search branches)))

@@ -3,10 +3,10 @@ use Rattle.replay.proofs.hand_over.Statement.{statement}
 use Rattle.replay.proofs.hand_over.Tie as tie
 
 abbrev Inv-loop : tie.InvT-loop
-Inv-loop message c₀ left₀ c left = Unit {0}
+Inv-loop message output₀ c₀ turns₀ output c turns = Unit {0}
 
 abbrev μ-loop : tie.MeasureT-loop
-μ-loop message c₀ left₀ c left = left
+μ-loop message output₀ c₀ turns₀ output c turns = turns
 
 pub hand-over-spec : {M : Type 1} → statement M
 hand-over-spec =

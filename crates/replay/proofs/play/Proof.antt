@@ -6,10 +6,10 @@ use Rattle.replay.proofs.play.Statement.{statement}
 use Rattle.replay.proofs.play.Tie as tie
 
 abbrev Inv-loop : tie.InvT-loop
-Inv-loop exchange buffer₀ c₀ at₀ buffer c at = length buffer ≡ length buffer₀
+Inv-loop exchange buffer₀ p₀ at₀ buffer p at = length buffer ≡ length buffer₀
 
 abbrev μ-loop : tie.MeasureT-loop
-μ-loop exchange buffer₀ c₀ at₀ buffer c at = length exchange - at
+μ-loop exchange buffer₀ p₀ at₀ buffer p at = length exchange - at
 
 pub play-spec : {M : Type 1} → statement M
 play-spec =
@@ -17,6 +17,8 @@ play-spec =
     (tie.spec
     Inv-loop
     μ-loop
+    (λ c. search needs)
+    (λ c. search needs)
     (λ c. search needs)
     (λ c. search needs)
     (λ c. search needs)

@@ -10,11 +10,11 @@ due-spec =
     tie.close
     (tie.spec
     (λ c κs. search needs)
-    (λ c. search branches depth 40 fits 8000)
+    (λ c. search branches)
     (λ c κs. search needs)
     (λ c κs. search needs)
-    (λ c. search branches depth 40 fits 8000)
+    (λ c. search branches)
     (λ c κs. search needs)
-    (λ c. search branches depth 40 fits 8000)
+    (λ c. search branches)
     (λ c κs. search needs)
-    (λ c. search branches depth 40 fits 8000))
+    (λ c. search branches))

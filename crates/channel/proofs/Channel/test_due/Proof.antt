@@ -5,4 +5,4 @@ use Rattle.channel.proofs.Channel.test_due.Tie as tie
 
 pub test-due-spec : {M : Type 1} → statement M
 unfolding testDue
-test-due-spec = tie.close (tie.spec (λ c κs. search needs) (λ c. rw (c .before .before .before .has-unacknowledged .ensures)))
+test-due-spec = tie.close (tie.spec (λ c κs. search needs) (λ c. cc))

@@ -8,4 +8,4 @@ agreeing-spec =
     (tie.spec
     (λ c κs. search needs)
     (λ c κs. search needs)
-    (λ c. rw (c .no-channel .ensures, c .before .new-attempt .ensures)))
+    (λ c. rw (c .unopened .ensures, c .before .new-attempt .ensures)))

@@ -10,10 +10,10 @@ close-spec =
     tie.close
     (tie.spec
     (λ c κs. search needs)
-    (λ c. rw (c .gives .ensures) (search branches depth 40 fits 8000))
+    (λ c. rw (c .gives .ensures) (search branches))
     (λ c κs. search needs)
     (λ c κs. search needs)
-    (λ c. rw (c .gives2 .ensures, c .before .closed .ensures) (search branches depth 40 fits 8000))
+    (λ c. rw (c .gives2 .ensures, c .before .closed .ensures) (search branches))
     (λ c κs. search needs)
     (λ c κs. search needs)
-    (λ c. rw (c .gives3 .ensures, c .before .leaving-on .ensures) (search branches depth 40 fits 8000)))
+    (λ c. rw (c .gives3 .ensures, c .before .leaving-on .ensures) (search branches)))

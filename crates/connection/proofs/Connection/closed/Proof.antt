@@ -9,4 +9,4 @@ closed-spec =
     (λ c κs. search needs)
     (λ c κs. search needs)
     (λ c κs. search needs)
-    (λ c. rw (c .no-channel .ensures, c .before .no-attempt .ensures, c .before .before .default .ensures)))
+    (λ c. rw (c .unopened .ensures, c .before .no-attempt .ensures, c .before .before .default .ensures)))

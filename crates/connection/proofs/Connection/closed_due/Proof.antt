@@ -10,8 +10,8 @@ closed-due-spec =
     tie.close
     (tie.spec
     (λ c κs. search needs)
-    (λ c. rw (c .hand-nothing .ensures) (search branches depth 40 fits 8000))
+    (λ c. rw (c .hand-nothing .ensures) (search branches))
     (λ c κs. search needs)
     (λ c κs. search needs)
     (λ c κs. search needs)
-    (λ c. rw (c .hand-over .ensures, c .before .closed .ensures, c .before .before .write-disconnect .ensures) (search branches depth 40 fits 8000)))
+    (λ c. rw (c .hand-over .ensures, c .before .closed .ensures, c .before .before .write-disconnect .ensures) (search branches)))

@@ -10,13 +10,13 @@ due-spec =
     tie.close
     (tie.spec
     (λ c κs. search needs)
-    (λ c. rw (c .closed-due .ensures) (search branches depth 40 fits 8000))
+    (λ c. rw (c .closed-due .ensures) (search branches))
     (λ c κs. search needs)
     (λ c κs. search needs)
-    (λ c. rw (c .request-due .ensures, c .before .write-request .ensures) (search branches depth 40 fits 8000))
+    (λ c. rw (c .request-due .ensures, c .before .write-request .ensures) (search branches))
     (λ c κs. search needs)
     (λ c κs. search needs)
     (λ c κs. search needs)
-    (λ c. rw (c .request-due2 .ensures, c .before .write-setup .ensures, c .before .before .own-fields .ensures) (search branches depth 40 fits 8000))
+    (λ c. rw (c .request-due2 .ensures, c .before .write-setup .ensures, c .before .before .own-fields .ensures) (search branches))
     (λ c κs. search needs)
-    (λ c. rw (c .open-due .ensures) (search branches depth 40 fits 8000)))
+    (λ c. rw (c .open-due .ensures) (search branches)))

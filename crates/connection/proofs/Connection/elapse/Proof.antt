@@ -10,12 +10,9 @@ elapse-spec =
     tie.close
     (tie.spec
     (λ c κs. search needs)
-    (λ c. rw (c .gives .ensures) (search branches depth 40 fits 8000))
+    (λ c. rw (c .gives .ensures) (search branches))
     (λ c κs. search needs)
     (λ c κs. search needs)
-    (λ c. rw (c .attempt-elapses .ensures, ← c .before .before .is-open .ensures) (search branches depth 40 fits 8000))
+    (λ c. rw (c .attempt-elapses .ensures, ← c .before .before .is-open .ensures) (search branches))
     (λ c κs. search needs)
-    (λ c κs. search needs)
-    (λ c κs. search needs)
-    (λ c κs. search needs)
-    (λ c. rw (c .gives2 .ensures, c .before .pass-on .ensures, c .before .before .settled .ensures, ← c .before .before .before .before .elapse .ensures, ← c .before .before .before .before .before .before .before .is-open .ensures) (search branches depth 40 fits 8000)))
+    (λ c. rw (c .open-elapses .ensures, ← c .before .before .is-open .ensures) (search branches)))

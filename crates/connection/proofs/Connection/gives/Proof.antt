@@ -1,4 +1,3 @@
-use Rattle.laws.proofs.Branches.{branches}
 use borrow.Author.Needs.{needs}
 use Rattle.connection.proofs.Connection.gives.Statement.{statement}
 use Rattle.connection.proofs.Connection.gives.Tie as tie
@@ -8,4 +7,4 @@ gives-spec =
     tie.close
     (tie.spec
     (λ c κs. search needs)
-    (λ c. rw (c .tell .ensures) (search branches depth 40 fits 8000)))
+    (λ c. rw (c .tell .ensures)))

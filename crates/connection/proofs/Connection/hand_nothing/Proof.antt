@@ -1,4 +1,3 @@
-use Rattle.laws.proofs.Branches.{branches}
 use borrow.Author.Needs.{needs}
 use Rattle.connection.proofs.Connection.hand_nothing.Statement.{statement}
 use Rattle.connection.proofs.Connection.hand_nothing.Tie as tie
@@ -9,4 +8,4 @@ hand-nothing-spec =
     (tie.spec
     (λ c κs. search needs)
     (λ c κs. search needs)
-    (λ c. rw (c .no-frame .ensures, c .before .tell .ensures) (search branches depth 40 fits 8000)))
+    (λ c. rw (c .no-frame .ensures, c .before .tell .ensures)))

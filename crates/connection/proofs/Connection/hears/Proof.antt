@@ -1,13 +1,13 @@
 use Rattle.laws.proofs.Branches.{branches}
 use mathlib.Core.Path.{sym}
 use borrow.Author.Tests.{ne-eqb}
-use Rattle.connection.specs.Record.{listensOn}
+use Rattle.connection.specs.Record.{listensOn, hears}
 use borrow.Author.Needs.{needs}
 use Rattle.connection.proofs.Connection.hears.Statement.{statement}
 use Rattle.connection.proofs.Connection.hears.Tie as tie
 
 pub hears-spec : {M : Type 1} → statement M
-unfolding listensOn
+unfolding listensOn hears
 hears-spec =
     tie.close
     (tie.spec

@@ -7,7 +7,7 @@ pub is-open-spec : {M : Type 1} → statement M
 is-open-spec =
     tie.close
     (tie.spec
-    (λ c. sym (search branches depth 40 fits 8000))
-    (λ c. sym (search branches depth 40 fits 8000))
-    (λ c. sym (search branches depth 40 fits 8000))
-    (λ c. sym (search branches depth 40 fits 8000)))
+    (λ c. sym (search branches))
+    (λ c. sym (search branches))
+    (λ c. sym (search branches))
+    (λ c. sym (search branches)))

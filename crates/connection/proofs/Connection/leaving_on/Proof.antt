@@ -7,4 +7,4 @@ leaving-on-spec =
     tie.close
     (tie.spec
     (λ c κs. search needs)
-    (λ c. rw (c .closed .ensures)))
+    (λ c. rw (c .before .closed .ensures)))

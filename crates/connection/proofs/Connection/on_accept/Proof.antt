@@ -10,10 +10,10 @@ on-accept-spec =
     tie.close
     (tie.spec
     (λ c κs. search needs)
-    (λ c. rw (c .gives .ensures) (search branches depth 40 fits 8000))
+    (λ c. rw (c .brings .ensures) (search branches))
     (λ c κs. search needs)
     (λ c κs. search needs)
-    (λ c. rw (c .gives2 .ensures, ← c .before .before .bad-block .ensures, c .before .before .before .if1 .left, c .before .if2 .taken))
+    (λ c. rw (c .brings2 .ensures) (search branches))
     (λ c κs. search needs)
     (λ c κs. search needs)
-    (λ c. rw (c .gives3 .ensures, c .before .opened .ensures, ← c .before .before .before .bad-block .ensures, c .before .before .before .before .if1 .left, c .before .before .if2 .left)))
+    (λ c. rw (c .brings3 .ensures, c .before .opened .ensures) (search branches)))

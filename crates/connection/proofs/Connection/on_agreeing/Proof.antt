@@ -1,4 +1,3 @@
-use Rattle.laws.proofs.Branches.{branches}
 use Rattle.connection.specs.Calls.{onAgreeing}
 use borrow.Author.Needs.{needs}
 use Rattle.connection.proofs.Connection.on_agreeing.Statement.{statement}
@@ -26,11 +25,11 @@ on-agreeing-spec =
     (λ c κs. search needs)
     (λ c. search needs)
     (λ c κs. search needs)
-    (λ c. rw (c .on-accept .ensures, c .before .before .kind .given .1) (search branches depth 40 fits 8000))
-    (λ c. rw (c .gives .ensures, c .before .leaving-on .ensures, c .before .before .enum-told .given .1) (search branches depth 40 fits 8000))
-    (λ c. rw (c .gives2 .ensures, c .before .enum-told2 .given .1) (search branches depth 40 fits 8000))
-    (λ c. rw (c .gives3 .ensures, c .before .enum-told3 .given .1) (search branches depth 40 fits 8000))
-    (λ c. rw (c .gives4 .ensures, c .before .enum-told4 .given .1) (search branches depth 40 fits 8000))
-    (λ c. rw (c .gives5 .ensures, c .before .enum-told5 .given .1) (search branches depth 40 fits 8000))
-    (λ c. rw (c .gives6 .ensures, c .before .enum-told6 .given .1) (search branches depth 40 fits 8000))
-    (λ c. rw (c .gives7 .ensures, c .before .enum-told7 .given .1) (search branches depth 40 fits 8000)))
+    (λ c. rw (c .on-accept .ensures, c .before .before .kind .given .1))
+    (λ c. rw (c .brings .ensures, c .before .leaving-on .ensures, c .before .before .enum-told .given .1))
+    (λ c. rw (c .brings2 .ensures, c .before .enum-told2 .given .1))
+    (λ c. rw (c .brings3 .ensures, c .before .enum-told3 .given .1))
+    (λ c. rw (c .brings4 .ensures, c .before .enum-told4 .given .1))
+    (λ c. rw (c .brings5 .ensures, c .before .enum-told5 .given .1))
+    (λ c. rw (c .brings6 .ensures, c .before .enum-told6 .given .1))
+    (λ c. rw (c .brings7 .ensures, c .before .enum-told7 .given .1)))

@@ -10,7 +10,7 @@ request-due-spec =
     tie.close
     (tie.spec
     (λ c κs. search needs)
-    (λ c. rw (c .hand-nothing .ensures) (search branches depth 40 fits 8000))
+    (λ c. rw (c .hand-nothing .ensures) (search branches))
     (λ c. search needs)
     (λ c κs. search needs)
-    (λ c. rw (c .hand-over .ensures) (search branches depth 40 fits 8000)))
+    (λ c. rw (c .hand-over .ensures) (search branches)))

@@ -1,4 +1,3 @@
-use Rattle.laws.proofs.Branches.{branches}
 use borrow.Author.Needs.{needs}
 use Rattle.connection.proofs.Connection.requesting.Statement.{statement}
 use Rattle.connection.proofs.Connection.requesting.Tie as tie
@@ -9,4 +8,4 @@ requesting-spec =
     (tie.spec
     (λ c κs. search needs)
     (λ c κs. search needs)
-    (λ c. rw (c .no-channel .ensures, c .before .new-attempt .ensures) (search branches depth 40 fits 8000)))
+    (λ c. rw (c .unopened .ensures, c .before .new-attempt .ensures)))

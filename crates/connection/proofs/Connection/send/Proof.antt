@@ -11,8 +11,6 @@ send-spec =
     (tie.spec
     (λ c κs. search needs)
     (λ c κs. search needs)
-    (λ c. rw (c .gives .ensures, ← c .before .before .is-open .ensures) (search branches depth 40 fits 8000))
+    (λ c. rw (c .gives .ensures, ← c .before .before .is-open .ensures) (search branches))
     (λ c κs. search needs)
-    (λ c κs. search needs)
-    (λ c κs. search needs)
-    (λ c. rw (c .gives2 .ensures, c .before .pass-on .ensures, ← c .before .before .before .send .ensures, ← c .before .before .before .before .before .before .is-open .ensures) (search branches depth 40 fits 8000)))
+    (λ c. rw (c .open-sends .ensures, ← c .before .before .is-open .ensures) (search branches)))

@@ -42,8 +42,8 @@ use Rattle.connection.specs.Calls.{takenBy, takes, looked}
 use Rattle.connection.specs.declared.Connection.{Connection}
 use Rattle.connection.specs.declared.TakeStep.{TakeStep}
 use Rattle.connection.specs.declared.Taken.{Taken}
-use Rattle.connection.proofs.Told as N
-use Rattle.connection.proofs.Told.Laws as N′
+use Rattle.open_end.proofs.answers.Told as N
+use Rattle.open_end.proofs.answers.Told.Laws as N′
 use Rattle.connection.proofs.Connection as R
 use Rattle.connection.proofs.Connection.Laws as R′
 use Rattle.connection.proofs.TakeStep as S
@@ -54,10 +54,10 @@ use Rattle.connection.proofs.Connection.take_step as step
 use Rattle.connection.proofs.Connection.take_step.Symbol as step-def
 use Rattle.connection.proofs.Connection.take_step.Symbol.{name as #take-step}
 use Rattle.connection.proofs.Connection.take_step.Met as step-thm
-use Rattle.connection.proofs.shown as shown
-use Rattle.connection.proofs.shown.Symbol as shown-def
-use Rattle.connection.proofs.shown.Symbol.{name as #shown}
-use Rattle.connection.proofs.shown.Met as shown-thm
+use Rattle.open_end.proofs.shown as shown
+use Rattle.open_end.proofs.shown.Symbol as shown-def
+use Rattle.open_end.proofs.shown.Symbol.{name as #shown}
+use Rattle.open_end.proofs.shown.Met as shown-thm
 use Rattle.connection.proofs.Connection.take.Key.{name as #take}
 use Rattle.connection.proofs.Connection.take as taking
 use Rattle.connection.proofs.Connection.take.Statement as stated
@@ -280,4 +280,4 @@ take-spec 𝓤 H 𝓜 𝓖 𝓡 =
     (tables 𝓤 H 𝓜 𝓡 code.env .C) (tables 𝓤 H 𝓜 𝓡 code.env .Λ) #take code.function (code.unfolded 𝓤 H 𝓜 𝓡)
     (take-meets 𝓤 H (𝓖 .A) (givenOf 𝓤 H 𝓜 𝓖) (𝓜 .mem) (𝓡 .run) (tablesOf 𝓤 H 𝓜 (tables 𝓤 H 𝓜 𝓡 code.env))
     (cited 𝓤 H (Step 𝓤 H (𝓖 .A) (𝓜 .mem) (𝓡 .run)) 𝓜 𝓡 code.env #take-step step-def.routine code.calls-connection·Connection·take-step (step-thm.met 𝓤 H 𝓜 𝓖 𝓡))
-    (cited 𝓤 H (Show 𝓤 H (𝓖 .A) (𝓜 .mem) (𝓡 .run)) 𝓜 𝓡 code.env #shown shown-def.routine code.calls-connection·shown (shown-thm.met 𝓤 H 𝓜 𝓖 𝓡)))
+    (cited 𝓤 H (Show 𝓤 H (𝓖 .A) (𝓜 .mem) (𝓡 .run)) 𝓜 𝓡 code.env #shown shown-def.routine code.calls-open-end·shown (shown-thm.met 𝓤 H 𝓜 𝓖 𝓡)))

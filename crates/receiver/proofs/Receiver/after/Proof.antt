@@ -1,10 +1,10 @@
 use borrow.Author.Needs.{needs}
-use Rattle.receiver.specs.Inside.{left}
+use Rattle.receiver.specs.Inside.{receiverAfter}
 use Rattle.receiver.proofs.Receiver.after.Statement.{statement}
 use Rattle.receiver.proofs.Receiver.after.Tie as tie
 
 pub after-spec : {M : Type 1} → statement M
-unfolding left
+unfolding receiverAfter
 after-spec =
     tie.close
     (tie.spec

@@ -11,10 +11,10 @@ brought-spec =
     (tie.spec
     (λ c. search needs)
     (λ c. search needs)
-    (λ c. search branches depth 40 fits 8000)
-    (λ c. search branches depth 40 fits 8000)
+    (λ c. search branches)
+    (λ c. search branches)
     (λ c. search needs)
     (λ c. search needs)
     (λ c κs. search needs)
     (λ c. search needs)
-    (λ c. rw (c .declared-length .ensures) (search branches depth 40 fits 8000)))
+    (λ c. rw (c .declared-length .ensures) (search branches)))

@@ -10,7 +10,7 @@ take-spec =
     tie.close
     (tie.spec
     (λ c κs. search needs)
-    (λ c. rw (← c .before .is-waiting .ensures) (search branches depth 40 fits 8000))
+    (λ c. rw (← c .before .is-waiting .ensures) (search branches))
     (λ c. search needs)
-    (λ c. rw (← c .before .before .is-waiting .ensures) (search branches depth 40 fits 8000))
-    (λ c. rw (← c .before .before .is-waiting .ensures) (search branches depth 40 fits 8000)))
+    (λ c. rw (← c .before .before .is-waiting .ensures) (search branches))
+    (λ c. rw (← c .before .before .is-waiting .ensures) (search branches)))

@@ -9,9 +9,9 @@ unfolding offered
 offer-spec =
     tie.close
     (tie.spec
-    (λ c. search branches depth 40 fits 8000)
-    (λ c. search branches depth 40 fits 8000)
+    (λ c. search branches)
+    (λ c. search branches)
     (λ c. search needs)
-    (λ c. search branches depth 40 fits 8000)
+    (λ c. search branches)
     (λ c. search needs)
-    (λ c. search branches depth 40 fits 8000))
+    (λ c. search branches))

@@ -10,12 +10,12 @@ pass-spec =
     tie.close
     (tie.spec
     (λ c κs. tt)
-    (λ c. rw (c .quiet .ensures) (search branches depth 40 fits 8000))
+    (λ c. rw (c .quiet .ensures) (search branches))
     (λ c. search needs)
     (λ c κs. tt)
-    (λ c. rw (c .quiet2 .ensures) (search branches depth 40 fits 8000))
+    (λ c. rw (c .quiet2 .ensures) (search branches))
     (λ c. search needs)
     (λ c κs. tt)
     (λ c κs. tt)
-    (λ c. rw (c .less2 .ensures, c .before .less .ensures) (search branches depth 40 fits 8000))
-    (λ c. search branches depth 40 fits 8000))
+    (λ c. rw (c .less2 .ensures, c .before .less .ensures) (search branches))
+    (λ c. search branches))

@@ -10,12 +10,12 @@ unfolding allowed
 in-range-spec =
     tie.close
     (tie.spec
-    (λ c. sym (search branches depth 40 fits 8000))
-    (λ c. sym (search branches depth 40 fits 8000))
+    (λ c. sym (search branches))
+    (λ c. sym (search branches))
     (λ c κs. search needs)
-    (λ c. rw (← c .before .bad-block .ensures) (sym (search branches depth 40 fits 8000)))
-    (λ c. rw (← c .before .before .before .bad-block .ensures) (sym (search branches depth 40 fits 8000)))
-    (λ c. rw (← c .before .before .before .before .before .bad-block .ensures) (sym (search branches depth 40 fits 8000)))
-    (λ c. rw (← c .before .before .before .before .before .before .before .bad-block .ensures) (sym (search branches depth 40 fits 8000)))
-    (λ c. rw (← c .before .before .before .before .before .before .before .before .before .bad-block .ensures) (sym (search branches depth 40 fits 8000)))
-    (λ c. rw (← c .before .before .before .before .before .before .before .before .before .bad-block .ensures) (sym (search branches depth 40 fits 8000))))
+    (λ c. sym (search branches))
+    (λ c. sym (search branches))
+    (λ c. sym (search branches))
+    (λ c. sym (search branches))
+    (λ c. sym (search branches))
+    (λ c. sym (search branches)))

@@ -13,9 +13,4 @@ frame-spec =
     (λ c κs. tt)
     (λ c κs. tt)
     (λ c κs. tt)
-    (λ c.
-    frame-made _ _ _ _
-    (c .before .before .before .frames .ensures)
-    (c .before .before .asks-at .ensures)
-    (c .before .header .ensures)
-    (c .headed .ensures)))
+    (λ c. search frame-made))

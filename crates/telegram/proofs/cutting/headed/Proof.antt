@@ -39,8 +39,4 @@ headed-spec =
     (λ c. search needs)
     (λ c. search needs)
     (λ c. search needs)
-    (λ c.
-    let s = c .before .before .before .before .before .before .before .before in
-    let a = s .before .before .args in
-    let h : s .piece-start .result + 7 ≤ length (a .message .now) = omega (arith, c .before .before .before .before .before .before .before) in
-    headed-inside (a .message .now) (a .head) (a .place) (s .piece-start .result) (inside (7 * a .place) (length (a .message .now)) (s .piece-start .result) (s .piece-start .ensures) h) h))
+    (λ c. search (headed-inside, inside)))

@@ -17,14 +17,4 @@ headed-end-spec =
     (λ c κs. tt)
     (λ c κs. tt)
     (λ c κs. tt)
-    (λ c.
-    let d = c .before .before .before .before in
-    headed-made _ _ _
-    (d .before .before .before .length-from .ensures)
-    (d .before .before .byte-at .ensures)
-    (d .before .byte-at2 .ensures)
-    (d .byte-at3 .ensures)
-    (c .before .before .before .byte-at4 .ensures)
-    (c .before .before .byte-at5 .ensures)
-    (c .before .byte-at6 .ensures)
-    (c .byte-at7 .ensures)))
+    (λ c. search headed-made))

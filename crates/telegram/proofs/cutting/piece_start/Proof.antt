@@ -6,5 +6,5 @@ pub piece-start-spec : {M : Type 1} → statement M
 piece-start-spec =
     tie.close
     (tie.spec
-    (λ c. search branches depth 40 fits 8000)
-    (λ c. search branches depth 40 fits 8000))
+    (λ c. search branches)
+    (λ c. search branches))

@@ -9,6 +9,6 @@ unfolding badBlock
 bad-block-spec =
     tie.close
     (tie.spec
-    (λ c. sym (search branches depth 40 fits 8000))
-    (λ c. sym (search branches depth 40 fits 8000))
-    (λ c. sym (search branches depth 40 fits 8000)))
+    (λ c. sym (search branches))
+    (λ c. sym (search branches))
+    (λ c. sym (search branches)))

@@ -21,7 +21,7 @@ use sound.WpLaws.{FmC}
 use denote.Slice.{sliceTy, sliceVal}
 use denote.Triple.Call.{calls-from}
 use Rattle.connection.proofs.Connection.take_step.Symbol.{name as #take-step}
-use Rattle.connection.proofs.shown.Symbol.{name as #shown}
+use Rattle.open_end.proofs.shown.Symbol.{name as #shown}
 use Rattle.connection.proofs.Connection.take.Code.Mir.{by-name-t-1}
 
 abbrev pub Typed : Ty → Val → Type 0

@@ -1,0 +1,31 @@
+use Prim.Native.Nat.{ℕ, min}
+use mathlib.Core.Path.{_≡_}
+use Rattle.telegram.specs.Time.{tenthsOf}
+use Rattle.telegram.specs.declared.kinds.Parameters.{Parameters as Fields}
+use Rattle.settings.specs.declared.Settings.{Settings}
+use Rattle.connection.specs.Record.{ownFields, agreed}
+use borrow.Author.Needs.{needs}
+use Rattle.connection.proofs.agreed.agree.Statement.{statement}
+use Rattle.connection.proofs.agreed.agree.Tie as tie
+
+-- what is agreed, of its parts
+agrees : (s : Settings) (p own : Fields) (block t1 t3 : ℕ) → block ≡ min (s .block) (p .block) → t1 ≡ tenthsOf (s .t1) → t3 ≡ tenthsOf (p .t3) → own ≡ ownFields s
+    → record {
+      terms = record { block = block; t1 = t1; t3 = t3; repeats = s .mntb; «t_wait» = s .«t_wait» };
+      interval = s .«t_ct»;
+      allowed = s .mnct;
+      own = own;
+    } ≡ agreed s p
+agrees s p own block t1 t3 smaller first third ours = rw (smaller, first, third, ours)
+
+pub agree-spec : {M : Type 1} → statement M
+agree-spec =
+    tie.close
+    (tie.spec
+    (λ c κs. search needs)
+    (λ c κs. search needs)
+    (λ c κs. search needs)
+    (λ c. search needs)
+    (λ c. search needs)
+    (λ c κs. search needs)
+    (λ c. search agrees))

@@ -1,0 +1,5 @@
+pub mod Output
+pub mod Words
+pub mod Numbers
+pub mod Pairs
+pub mod Written
