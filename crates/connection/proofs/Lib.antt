@@ -1,1 +1,6 @@
 pub mod Take
+pub mod Rules
+pub mod Agreeing
+pub mod Waiting
+pub mod Ends
+pub mod Adding

@@ -3,7 +3,7 @@ use Prim.Native.Nat.{ℕ, _+_, _-_, _≤_, _<_}
 use native.Mathlib.Omega.{arith}
 use mathlib.Core.Bool.{Bool, true, false, not, _&&_, _||_, or-false}
 use mathlib.Core.List.{List}
-use mathlib.Core.Path.{_≡_, refl, _∙_}
+use mathlib.Core.Path.{_≡_, refl, sym, _∙_}
 use lib.ListN.{length, drop, getD, length-drop}
 use lib.Seq.{getD-drop}
 use lib.Dec.{ltb, leb, eqb}
@@ -13,11 +13,11 @@ use Rattle.laws.proofs.Branches.{not-on, not-off}
 use Rattle.laws.proofs.Cases.{by, by-not, Makes}
 use Rattle.telegram.specs.Kinds.{badBlock, fields, sorted}
 use Rattle.opening.specs.Opening.{replyRead}
-use Rattle.telegram.specs.Cutting.{declaredOf}
 use Rattle.opening.specs.declared.Reply.{Reply}
 use Rattle.telegram.specs.declared.kinds.Telegram.{Telegram}
 use Rattle.telegram.specs.declared.kinds.Telegram.the-variants.{Data, Ack, Test, Break, Disconnect, Setup, Accept, Malformed}
-use Rattle.sender.specs.Sending.{distance}
+use Rattle.telegram.specs.Cutting.{declaredOf, framesOf}
+use Rattle.sender.specs.Sending.{distance, heldFor, again, finished, acknowledged}
 use Rattle.sender.specs.declared.Terms.{Terms}
 use Rattle.sender.specs.declared.Sender.{Sender}
 use Rattle.sender.specs.declared.Heard.{Heard}
@@ -27,24 +27,25 @@ use Rattle.receiver.specs.declared.Receiver.{Receiver}
 use Rattle.receiver.specs.declared.Received.{Received}
 use Rattle.receiver.specs.declared.Cause.{Cause}
 use Rattle.receiver.specs.declared.Receipt.the-variants.{NoData}
-use Rattle.receiver.specs.Receiving.{isUsed, used, completed, copied, onData}
+use Rattle.receiver.specs.Receiving.{isUsed, numbered, settled as receiverSettled, onData}
 use Rattle.receiver.proofs.Outcomes.{declaredBy, Brings, at-first, at-later, Breaks, too-short, declares-none, over-limit, too-many, no-end, early-end, Judged, breaks, short-first, short-later, goes-on, ends, InOrder, Outcome, out-of-place, untaken, thrown-away, in-order, outcome}
-use Rattle.receiver.proofs.Laws.{kept-unasked, NotData, received-data, received-other, buffered-noted, buffered-unused}
+use Rattle.receiver.proofs.Laws.{NotData, received-data, received-other, buffered-noted, buffered-unused}
 use Rattle.channel.specs.Opened.{withSender, withReceiver, restarted}
 use Rattle.channel.specs.declared.Channel.{Channel}
 use Rattle.channel.specs.declared.Answered.{Answered as ChannelAnswered}
 use Rattle.arrival.specs.Arrived.{dataAnswer, ackAnswer, arrived as channelArrived, bufferedBy}
 use Rattle.arrival.proofs.Arriving.{answers, ArrivalOutcome, data-came, ack-came, test-came, break-came, disconnect-came, setup-came, accept-undue, accept-bad, accept-came, malformed-came, arrival-outcome, arrived-data, arrived-ack}
 use Rattle.open_end.specs.declared.answers.Said.{Said}
-use Rattle.open_end.specs.Answers.{plain}
 use Rattle.open_end.specs.OpenEnd.{withChannel, courseOf, arrivedAt, bufferedAt}
 use Rattle.connection.specs.declared.Connection.{Connection}
 use Rattle.connection.specs.declared.Arrived.{Arrived}
-use Rattle.connection.specs.Record.{phaseRequesting, phaseAgreeing, isClosed, isRequesting, isAgreeing, isOpen, closedRecord}
+use Rattle.connection.specs.Record.{hears as listened}
 use Rattle.connection.specs.Calls.{brings, arrived, buffered, onReply, onAccept, onAgreeing, onOpen, settled}
-use Rattle.connection_rows.specs.Tables.{row, Table, always, _orElse_, toldBy}
-use Rattle.connection_rows.specs.Rows.{isData, isAck, numberIn, asksAck, isLast, isReady, otherId, outOfPlace, ahead, noMessage, isHolding, isBeyond, changesNothing, notReadyTooOften, waitsUntaken, throwsAway, isJudged, shortLater, broken, shortFirst, onChannel, askedForAck, thrownAway, finishes, sendingAfter, receivingAfter, bufferAfter, arrivalTable, arriveSays}
+use Rattle.connection_rows.specs.Tables.{plain, row, Table, always, _orElse_, toldBy}
+use Rattle.connection_rows.specs.Records.{isClosed, isRequesting, isAgreeing, isOpen, closedRecord, onChannel}
+use Rattle.connection_rows.specs.Rows.{numberedBy, atFirst, writtenAt, isData, isAck, numberIn, asksAck, isLast, isReady, otherId, outOfPlace, noMessage, isHolding, waitsUntaken, throwsAway, isJudged, shortLater, broken, shortFirst, askedForAck, thrownAway, receivingAfter, bufferAfter, arrivalTable, arriveSays}
 use Rattle.connection_rows.proofs.Bytes.{Only, telegram, by-kind, by-reply, data-bytes}
+use Rattle.connection_rows.proofs.Same.{other-same, tenths-same, smaller-same, ahead-same, acked-same, carried-same, copied-same}
 use Rattle.connection_rows.proofs.Tests.{unbroken, behind, other-phase}
 
 module _ (limit : ℕ) (c : Connection) (id : ℕ) (s b : List ℕ) where
@@ -72,8 +73,11 @@ module _ (limit : ℕ) (c : Connection) (id : ℕ) (s b : List ℕ) where
   abbrev passes : List ℕ → ChannelAnswered → Said × (Connection × List ℕ)
   passes w r = tells w (brings (r .answer) (settled c (courseOf (r .answer)) (withChannel (c .end) (r .channel))))
 
+  abbrev written : List ℕ
+  written = if atFirst c then writtenAt 0 (drop 3 s) b else writtenAt (receiving .at .fill) (drop 1 s) b
+
   abbrev receives : Received → Said × (Connection × List ℕ)
-  receives r = passes (if isUsed (r .note) then copied receiving (drop 1 s) b else b) (answers (dataAnswer (r .note)) (withReceiver ch (r .receiver)))
+  receives r = passes (if isUsed (r .note) then written else b) (answers (dataAnswer (r .note)) (withReceiver ch (r .receiver)))
 
   abbrev hears : Heard → Said × (Connection × List ℕ)
   hears h = passes b (answers (ackAnswer (h .note)) (withSender ch (h .sender)))
@@ -105,8 +109,8 @@ module _ (limit : ℕ) (c : Connection) (id : ℕ) (s b : List ℕ) where
       row (ltb (m .length) fill || not (isLast s) && leb (m .length) fill || isLast s && ltb fill (m .length)) 9 (thrownAway c s, b)
       orElse row (ltb (length b) (m .length)) 7 (thrownAway c s, b)
       orElse always (plain 0) (
-        onChannel c (restarted (withReceiver ch (if isLast s then completed receiving (asksAck s) m else used receiving (asksAck s) m fill))),
-        copied receiving (drop 1 s) b,
+        onChannel c (restarted (withReceiver ch (if isLast s then numberedBy c s false 0 0 (m .length) else numberedBy c s false (m .length) fill (receiving .complete .length)))),
+        written,
       )
 
   throws : {t : Bool} → receiving .at .discarding ≡ t → throwsAway c ≡ t
@@ -156,7 +160,7 @@ module _ (limit : ℕ) (c : Connection) (id : ℕ) (s b : List ℕ) where
       broken-told (early-end {m = m} {fill = fill} g l few) = meets g (rw (le-ltb (m .length) fill (omega arith), l, lt-ltb fill (m .length) few))
 
       judged-told : {x : Received} → Judged limit receiving (asksAck s) (isLast s) (drop 1 s) (length b) x → receives x ≡ toldBy dataRows
-      unfolding courseOf settled
+      unfolding courseOf settled numbered receiverSettled
       judged-told (breaks h) = broken-told h
       judged-told (short-first {m = m} {fill = fill} g e short) = meets g (rw (unbroken (isLast s) fill (m .length) e, lt-ltb _ _ short))
       judged-told (short-later f short) = rw (placed, none-waits, is-judged, f, lt-ltb _ _ short)
@@ -166,19 +170,36 @@ module _ (limit : ℕ) (c : Connection) (id : ℕ) (s b : List ℕ) where
           meets g (rw (l, le-ltb (m .length) fill (omega arith), le-ltb fill (m .length) (omega arith), le-ltb (length b) (m .length) roomy))
 
     received-told : {x : Received} → Outcome limit receiving (asksAck s) (isLast s) (numberIn s) (drop 1 s) (length b) x → receives x ≡ toldBy dataRows
-    unfolding courseOf settled
-    received-told (out-of-place n) = rw (open′, d, ne-eqb _ _ n)
-    received-told (untaken e w) = rw (open′, d, eq-eqb _ _ e, w)
+    unfolding courseOf settled numbered receiverSettled
+    received-told (out-of-place n) = rw (open′, d, ne-eqb _ _ n, or-false)
+    received-told (untaken e w) = rw (open′, d, eq-eqb _ _ e, w, or-false)
     received-told (thrown-away e w t) = rw (open′, d, eq-eqb _ _ e, w, throws t)
     received-told (in-order o j) = judged-told o j
 
   -- ---- the rows that an Ack on an open connection meets
 
+  -- how far the Ack's number lies ahead
+  abbrev away : ℕ
+  away = distance sending (numberIn s)
+
+  abbrev acks : Bool
+  acks = isOpen c && isAck s && not (noMessage c) && not (isHolding c) && not (eqb away 0) && not (ltb (sending .high - sending .acked) away)
+
+  abbrev ends-there : Bool
+  ends-there = acks && eqb (sending .acked + away) (framesOf (sending .length))
+
+  abbrev heardRows : Sender → Table (Connection × List ℕ)
+  heardRows x =
+      row (isOpen c && isAck s && (noMessage c || isHolding c || eqb away 0 && isReady s || ltb (sending .high - sending .acked) away)) 12 (c, b)
+      orElse row (isOpen c && isAck s && eqb away 0 && not (isReady s) && ltb (terms .repeats) (sending .count + 1)) 8 (closedRecord, b)
+      orElse always (record { number = 0; done = ends-there; opcode = 0 }) (onChannel c (restarted (withSender ch x)), b)
+
   abbrev ackRows : Table (Connection × List ℕ)
   ackRows =
-      row (changesNothing c s) 12 (c, b)
-      orElse row (notReadyTooOften c s) 8 (closedRecord, b)
-      orElse always (record { number = 0; done = finishes c s; opcode = 0 }) (onChannel c (restarted (withSender ch (sendingAfter c s))), b)
+      heardRows
+      (if eqb away 0 then again sending (heldFor terms (isReady s)) (sending .gap)
+      else if ends-there then finished sending away (heldFor terms (isReady s))
+      else acknowledged sending away (heldFor terms (isReady s)))
 
   some-message : Counts sending → noMessage c ≡ false
   some-message n = ne-eqb (sending .length) 0 (λ z. omega arith)
@@ -186,14 +207,14 @@ module _ (limit : ℕ) (c : Connection) (id : ℕ) (s b : List ℕ) where
   no-hold : Counts sending → isHolding c ≡ false
   no-hold n = le-ltb 0 (sending .hold) (omega arith)
 
-  far : 1 ≤ distance sending (numberIn s) → eqb (ahead c s) 0 ≡ false
-  far some = ne-eqb (ahead c s) 0 (λ z. omega arith)
+  far : 1 ≤ away → eqb away 0 ≡ false
+  far some = ne-eqb away 0 (λ z. omega arith)
 
-  within : sending .acked + ahead c s ≤ sending .high → isBeyond c s ≡ false
-  within most = le-ltb (sending .high - sending .acked) (ahead c s) (omega arith)
+  within : sending .acked + away ≤ sending .high → ltb (sending .high - sending .acked) away ≡ false
+  within most = le-ltb (sending .high - sending .acked) away (omega arith)
 
-  not-beyond : Stalls sending (isReady s) (numberIn s) → isBeyond c s ≡ false
-  not-beyond h = let z = h .none in le-ltb (sending .high - sending .acked) (ahead c s) (omega arith)
+  not-beyond : Stalls sending (isReady s) (numberIn s) → ltb (sending .high - sending .acked) away ≡ false
+  not-beyond h = let z = h .none in le-ltb (sending .high - sending .acked) away (omega arith)
 
   module _ (open′ : isOpen c ≡ true) (a : isAck s ≡ true) where
     heard-told : {x : Heard} → AckCase terms sending (isReady s) (numberIn s) x → hears x ≡ toldBy ackRows
@@ -201,7 +222,7 @@ module _ (limit : ℕ) (c : Connection) (id : ℕ) (s b : List ℕ) where
     heard-told (no-message z) = rw (open′, a, eq-eqb _ _ z)
     heard-told (in-hold some held) = rw (open′, a, ne-eqb (sending .length) 0 (λ z. omega arith), lt-ltb _ _ held)
     heard-told (repeated n z ready) = rw (open′, a, some-message n, no-hold n, eq-eqb _ _ z, ready)
-    heard-told (beyond n some out) = rw (open′, a, some-message n, no-hold n, far some, lt-ltb (sending .high - sending .acked) (ahead c s) (omega arith))
+    heard-told (beyond n some out) = rw (open′, a, some-message n, no-hold n, far some, lt-ltb (sending .high - sending .acked) away (omega arith))
     heard-told (ack-used-up h most) =
         let more : terms .repeats < sending .count + 1 = omega arith in
         rw (open′, a, some-message (h .counts), no-hold (h .counts), not-beyond h, eq-eqb _ _ (h .none), h .busy, lt-ltb _ _ more)
@@ -236,11 +257,14 @@ module _ (limit : ℕ) (c : Connection) (id : ℕ) (s b : List ℕ) where
   -- ---- phase by phase
 
   module _ (closed : isClosed c ≡ false) (same : otherId c id ≡ false) where
+    ours : not (listened c id) ≡ false
+    ours = sym (other-same c id closed) ∙ same
+
     -- while the D0 is awaited
     reply-told : isRequesting c ≡ true → isAgreeing c ≡ false → Makes (tells (buffered limit c id s b)) tabled (onReply c (replyRead s (c .settings .receive)))
     unfolding buffered onReply
     reply-told req agr =
-        rw (closed, same, req, agr)
+        rw (closed, same, ours, req, agr)
         (by-reply s (c .settings .receive) (Makes (replies _) _)
         (λ r u p. rw (r, u, p) (by-not (Makes (tells _) _) (c .attempt .asked) (λ e. rw e) (λ e. rw e)))
         (λ r q u p. rw (r, q, u, p) (by-not (Makes (tells _) _) (c .attempt .asked) (λ e. rw e) (λ e. rw e)))
@@ -250,7 +274,7 @@ module _ (limit : ℕ) (c : Connection) (id : ℕ) (s b : List ℕ) where
     agreeing-told : isRequesting c ≡ false → isAgreeing c ≡ true → Makes (tells (buffered limit c id s b)) tabled (onAgreeing c (sorted s .kind))
     unfolding buffered onAgreeing onAccept
     agreeing-told req agr =
-        rw (closed, same, req, agr)
+        rw (closed, same, ours, req, agr)
         (by-kind s (Makes (agrees _) _)
         (λ k. rw (telegram k, k .accept, k .disconnect))
         (λ k. rw (telegram k, k .accept, k .disconnect))
@@ -260,7 +284,7 @@ module _ (limit : ℕ) (c : Connection) (id : ℕ) (s b : List ℕ) where
         (λ k. rw (telegram k, k .accept, k .disconnect))
         (λ k. rw (telegram k, k .accept, k .disconnect, k .setup)
         (by-not (Makes (tells _) _) (c .attempt .asked) (λ e. rw e) (λ e. rw e
-        (by (Makes (tells _) _) (badBlock (fields s .block)) (λ z. rw (block z)) (λ z. rw (block z))))))
+        (by (Makes (tells _) _) (badBlock (fields s .block)) (λ z. rw (block z)) (λ z. rw (block z, smaller-same (c .settings .block) (getD s 1 0), tenths-same (c .settings .t1), tenths-same (getD s 4 0)))))))
         (λ k. rw (telegram k)))
 
     module _ (req : isRequesting c ≡ false) (agr : isAgreeing c ≡ false) where
@@ -269,19 +293,20 @@ module _ (limit : ℕ) (c : Connection) (id : ℕ) (s b : List ℕ) where
 
       data-told : Only s 0 → opens (Data (asksAck s) (isLast s) (numberIn s)) ≡ tabled
       data-told k =
-          let rows : toldBy dataRows ≡ tabled = rw (closed, same, req, agr, telegram k, k .data′, k .ack, k .accept, k .disconnect, k .setup, or-false) in
+          let rows : toldBy dataRows ≡ tabled = rw (closed, same, req, agr, telegram k, k .data′, k .ack, k .test, k .accept, k .disconnect, k .setup, or-false) in
           let x = onData limit receiving (asksAck s) (isLast s) (numberIn s) (drop 1 s) (length b) in
           rw (
             arrived-data limit ch (drop 1 s) (length b) (asksAck s) (isLast s) (numberIn s),
             received-data limit receiving (drop 1 s) (length b) (asksAck s) (isLast s) (numberIn s),
             buffered-noted receiving (x .note) (drop 1 s) b,
+            copied-same receiving s b,
           )
           (received-told open′ (k .data′) (outcome limit receiving (asksAck s) (isLast s) (numberIn s) (drop 1 s) (length b)) ∙ rows)
 
       ack-told : Only s 1 → opens (Ack (isReady s) (numberIn s)) ≡ tabled
       ack-told k =
           let rows : toldBy ackRows ≡ tabled =
-          rw (closed, same, req, agr, telegram k, k .data′, k .ack, k .accept, k .disconnect, k .setup, kept-unasked receiving) in
+          rw (closed, same, req, agr, telegram k, k .data′, k .ack, k .test, k .break, k .accept, k .disconnect, k .setup, ahead-same c s, carried-same (sending .length) (sending .acked + away), acked-same sending s) in
           rw (
             unwritten (Ack (isReady s) (numberIn s)) tt,
             arrived-ack limit ch (drop 1 s) (length b) (isReady s) (numberIn s),
@@ -293,7 +318,7 @@ module _ (limit : ℕ) (c : Connection) (id : ℕ) (s b : List ℕ) where
       unfolding courseOf settled
       came data-came k = absurd k
       came ack-came k = absurd k
-      came test-came k = rw (closed, same, req, agr, telegram k, k .data′, k .ack, k .test, k .accept, k .disconnect, k .setup)
+      came test-came k = rw (closed, same, req, agr, telegram k, k .data′, k .ack, k .test, k .break, k .accept, k .disconnect, k .setup)
       came break-came k = rw (closed, same, req, agr, telegram k, k .data′, k .ack, k .test, k .break, k .accept, k .disconnect, k .setup)
       came disconnect-came k = rw (closed, same, req, agr, telegram k, k .data′, k .ack, k .accept, k .disconnect, k .setup)
       came setup-came k = rw (closed, same, req, agr, telegram k, k .accept, k .setup)
@@ -310,7 +335,7 @@ module _ (limit : ℕ) (c : Connection) (id : ℕ) (s b : List ℕ) where
 
       buffered-open : buffered limit c id s b ≡ bufferedAt limit (c .end) s b
       unfolding buffered
-      buffered-open = rw (closed, same, req, agr)
+      buffered-open = rw (closed, ours, req, agr)
 
       open-told : tells (buffered limit c id s b) (onOpen limit c s (length b)) ≡ tabled
       unfolding bufferedAt onOpen arrivedAt
@@ -330,6 +355,7 @@ module _ (limit : ℕ) (c : Connection) (id : ℕ) (s b : List ℕ) where
   unfolding arrived buffered
   arrive-told =
       by (Makes (tells _) _) (isClosed c) (λ closed. rw closed) (λ closed.
-      by (Makes (tells _) _) (otherId c id) (λ same. rw (closed, same)) (λ same.
-      by (Makes (tells _) _) (isRequesting c) (λ req. reply-told closed same req (other-phase (c .phase) phaseRequesting phaseAgreeing req refl)) (λ req.
+      by (Makes (tells _) _) (not (listened c id)) (λ other. rw (closed, other-same c id closed, other)) (λ ours.
+      let same = other-same c id closed ∙ ours in
+      by (Makes (tells _) _) (isRequesting c) (λ req. reply-told closed same req (other-phase (c .phase) 1 2 req refl)) (λ req.
       by (Makes (tells _) _) (isAgreeing c) (agreeing-told closed same req) (open-told closed same req))))

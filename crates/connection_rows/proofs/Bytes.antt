@@ -4,16 +4,17 @@ use mathlib.Core.Bool.{Bool, true, false, _&&_, _||_, true≢false}
 use mathlib.Core.List.{List}
 use mathlib.Core.Path.{_≡_, refl, sym, ap, _∙_}
 use lib.ListN.{length, getD}
-use lib.Dec.{leb, eqb}
-use borrow.Author.Tests.{leb-true, eqb-true, ne-eqb}
+use lib.Dec.{ltb, leb, eqb}
+use borrow.Author.Tests.{ltb-true, eqb-true, ne-eqb}
 use Rattle.laws.proofs.Branches.{and-off, and-off′}
 use Rattle.laws.proofs.Cases.{by, and-first, and-second}
 use Rattle.opening.specs.Opening.{idOf, replyRead}
-use Rattle.telegram.specs.Kinds.{top, bit4, fields, kindOf}
+use Rattle.telegram.specs.Kinds.{fields, kindOf}
 use Rattle.opening.specs.declared.Reply.{Reply}
 use Rattle.opening.specs.declared.Reply.the-variants.{Positive, Refused, Malformed as NoReply}
 use Rattle.telegram.specs.declared.kinds.Telegram.{Telegram}
 use Rattle.telegram.specs.declared.kinds.Telegram.the-variants.{Data, Ack, Test, Break, Disconnect, Setup, Accept, Malformed}
+use Rattle.connection_rows.proofs.Same.{data-same, asks-same, last-same, ack-same, ready-same, refusal-same}
 use Rattle.connection_rows.specs.Rows.{isData, asksAck, isLast, numberIn, isAck, isReady, isTest, isBreak, isDisconnect, isSetup, isAccept, isTelegram, isRefusal, isPositive}
 
 -- which of the seven kinds the bytes are
@@ -39,34 +40,38 @@ telegram k = rw (k .data′, k .ack, k .test, k .break, k .disconnect, k .setup,
 apart : (f : ℕ → Bool) (n m : ℕ) → f n ≡ true → f m ≡ false → eqb n m ≡ false
 apart f n m p q = ne-eqb n m (λ e. true≢false (sym p ∙ ap f e ∙ q))
 
+-- an Ack's byte
+abbrev isAckByte : ℕ → Bool
+isAckByte b = leb 0x90 b && ltb b 0xA0 || leb 0xB0 b && ltb b 0xC0
+
 module _ (s : List ℕ) where
   -- data is nothing else
   data-kind : isData s ≡ true → Only s 0
   unfolding isData isAck isTest isBreak isDisconnect isSetup isAccept
   data-kind d =
-      let upper : eqb (top (getD s 0 0)) 0 ≡ true = search (and-first, and-second) in
-      let two : leb 2 (length s) ≡ true = search (and-first, and-second) in
-      let one = apart (leb 2) (length s) 1 two refl in
-      let a0 = apart (λ n. eqb (top n) 0) (getD s 0 0) 0xA0 upper refl in
-      let a1 = apart (λ n. eqb (top n) 0) (getD s 0 0) 0xA1 upper refl in
+      let upper : ltb (getD s 0 0) 0x40 ≡ true = search (and-first, and-second) in
+      let two : ltb 1 (length s) ≡ true = search (and-first, and-second) in
+      let one = apart (ltb 1) (length s) 1 two refl in
+      let a0 = apart (λ n. ltb n 0x40) (getD s 0 0) 0xA0 upper refl in
+      let a1 = apart (λ n. ltb n 0x40) (getD s 0 0) 0xA1 upper refl in
       search (and-off, and-off′)
 
   -- nor is an Ack
   pub ack-kind : isAck s ≡ true → Only s 1
   unfolding isData isAck isTest isBreak isDisconnect isSetup isAccept
   ack-kind a =
-      let one = eqb-true (length s) 1 (search (and-first, and-second)) in
-      let lower : eqb (bit4 (getD s 0 0)) 1 ≡ true = search (and-first, and-second) in
-      let two : leb 2 (length s) ≡ false = rw one in
+      let one = eqb-true (length s) 1 (search and-first) in
+      let lower : isAckByte (getD s 0 0) ≡ true = and-second (eqb (length s) 1) (isAckByte (getD s 0 0)) a in
+      let two : ltb 1 (length s) ≡ false = rw one in
       let six : eqb (length s) 6 ≡ false = rw one in
-      let a3 = apart (λ n. eqb (bit4 n) 1) (getD s 0 0) 0xA3 lower refl in
-      let a4 = apart (λ n. eqb (bit4 n) 1) (getD s 0 0) 0xA4 lower refl in
-      let a8 = apart (λ n. eqb (bit4 n) 1) (getD s 0 0) 0xA8 lower refl in
+      let a3 = apart isAckByte (getD s 0 0) 0xA3 lower refl in
+      let a4 = apart isAckByte (getD s 0 0) 0xA4 lower refl in
+      let a8 = apart isAckByte (getD s 0 0) 0xA8 lower refl in
       search (and-off, and-off′)
 
   -- the others are told by their length and first byte
   code-kind : (n x : ℕ) → (eqb (length s) n && eqb (getD s 0 0) x) ≡ true
-      → Kind s (eqb (top x) 0 && leb 2 n && leb n 8) (eqb n 1 && eqb (top x) 2 && eqb (bit4 x) 1) (eqb n 1 && eqb x 0xA3) (eqb n 1 && eqb x 0xA4)
+      → Kind s (ltb x 0x40 && ltb 1 n && ltb n 9) (eqb n 1 && isAckByte x) (eqb n 1 && eqb x 0xA3) (eqb n 1 && eqb x 0xA4)
       (eqb n 1 && eqb x 0xA8) (eqb n 6 && eqb x 0xA0) (eqb n 6 && eqb x 0xA1)
   unfolding isData isAck isTest isBreak isDisconnect isSetup isAccept
   code-kind n x h =
@@ -87,19 +92,24 @@ module _ (s : List ℕ) where
       → P (kindOf s (getD s 0 0))
   unfolding kindOf isData isAck isTest isBreak isDisconnect isSetup isAccept
   by-kind P data′ ack test break disconnect setup accept malformed =
-      by P (isData s) (λ d. data′ (data-kind d)) (λ d.
-      by P (isAck s) (λ a. ack (ack-kind a)) (λ a.
+      rw (← data-same s, ← ack-same s)
+      (by P (isData s) (λ d. rw (← asks-same s d, ← last-same s) (data′ (data-kind d))) (λ d.
+      by P (isAck s) (λ a. rw (← ready-same s a) (ack (ack-kind a))) (λ a.
       by P (isTest s) (λ t. test (code-kind 1 0xA3 t)) (λ t.
       by P (isBreak s) (λ b. break (code-kind 1 0xA4 b)) (λ b.
       by P (isDisconnect s) (λ x. disconnect (code-kind 1 0xA8 x)) (λ x.
       by P (isSetup s) (λ u. setup (code-kind 6 0xA0 u)) (λ u.
       by P (isAccept s) (λ p. accept (code-kind 6 0xA1 p))
-      (λ p. malformed (record { data′ = d; ack = a; test = t; break = b; disconnect = x; setup = u; accept = p }))))))))
+      (λ p. malformed (record { data′ = d; ack = a; test = t; break = b; disconnect = x; setup = u; accept = p })))))))))
 
   -- a reply has seven bytes, so it is no A0 or A1
   no-channel : eqb (length s) 7 ≡ true → (isSetup s ≡ false) × (isAccept s ≡ false)
   unfolding isSetup isAccept
   no-channel h = let l = eqb-true (length s) 7 h in (rw l, rw l)
+
+  refusal-bytes : isRefusal s ≡ true → eqb (length s) 7 ≡ true
+  unfolding isRefusal
+  refusal-bytes r = search (and-first, and-second)
 
   -- what holds of a reply, by what it says
   pub by-reply : (receive : ℕ) (P : Reply → Type 0)
@@ -107,12 +117,13 @@ module _ (s : List ℕ) where
       → (isRefusal s ≡ false → isPositive receive s ≡ true → isSetup s ≡ false → isAccept s ≡ false → P (Positive (idOf (getD s 4 0) (getD s 5 0))))
       → (isRefusal s ≡ false → isPositive receive s ≡ false → P NoReply)
       → P (replyRead s receive)
-  unfolding replyRead isRefusal isPositive
+  unfolding replyRead isPositive
   by-reply receive P refused positive none =
-      by P (isRefusal s) (λ r. let n = no-channel (search (and-first, and-second)) in refused r (n .0) (n .1)) (λ r.
-      by P (isPositive receive s) (λ p. let n = no-channel (search (and-first, and-second)) in positive r p (n .0) (n .1)) (none r))
+      rw (← refusal-same s)
+      (by P (isRefusal s) (λ r. let n = no-channel (refusal-bytes r) in refused r (n .0) (n .1)) (λ r.
+      by P (isPositive receive s) (λ p. let n = no-channel (search (and-first, and-second)) in positive r p (n .0) (n .1)) (none r)))
 
 -- data has two bytes or more
 pub data-bytes : (s : List ℕ) → isData s ≡ true → 2 ≤ length s
 unfolding isData
-data-bytes s d = leb-true 2 (length s) (search (and-first, and-second))
+data-bytes s d = ltb-true 1 (length s) (search (and-first, and-second))

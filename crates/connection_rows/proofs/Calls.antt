@@ -35,11 +35,12 @@ use Rattle.connection.specs.declared.Connection.{Connection}
 use Rattle.connection.specs.declared.Answered.{Answered}
 use Rattle.connection.specs.declared.Due.{Due}
 use Rattle.connection.specs.declared.TakeStep.{TakeStep}
-use Rattle.connection.specs.Record.{phaseClosed, phaseRequesting, phaseAgreeing, isClosed, isRequesting, isAgreeing, isOpen}
 use Rattle.connection.specs.Calls.{gives, shows, opening, settled, attemptElapsed, openElapsed, elapsed, closedDue, requestDue, openDue, dueOf, openSent, sentBy, openTaken, takenBy, closed}
 use Rattle.connection_rows.specs.Tables.{toldBy}
-use Rattle.connection_rows.specs.Rows.{onChannel, runsOut, sendingLater, openTable, openSays, timeTable, timeSays, dueTable, dueSays, sendTable, sendSays, takeTable, takeSays, closeTable, closeSays}
-use Rattle.connection_rows.proofs.Tests.{runs-out, still-runs, stopped, other-phase}
+use Rattle.connection_rows.specs.Records.{isClosed, isRequesting, isAgreeing, isOpen, onChannel}
+use Rattle.connection_rows.specs.Rows.{runsOut, sendingLater, openTable, openSays, timeTable, timeSays, dueTable, dueSays, sendTable, sendSays, takeTable, takeSays, closeTable, closeSays}
+use Rattle.connection_rows.proofs.Same.{range-same, due-same, test-same, frame-same, out-same}
+use Rattle.connection_rows.proofs.Tests.{runs-out, still-runs, stopped, over-stopped, other-phase}
 
 -- what a call says and leaves
 abbrev tells : Answered → Said × Connection
@@ -50,7 +51,7 @@ tells r = (r .told .said, r .connection)
 pub open-told : (c : Connection) (s : Settings) → openSays c s ≡ toldBy (openTable c s)
 unfolding opening
 open-told c s =
-    by-not (Makes tells _) (isClosed c) (λ e. rw e) (λ e. rw e
+    by-not (Makes tells _) (isClosed c) (λ e. rw e) (λ e. rw (e, range-same s)
     (by-not (Makes tells _) (allowed s) (λ e. rw e) (λ e. rw e)))
 
 -- ---- time passes
@@ -69,7 +70,7 @@ sends t s n (wait-used-up r most) =
 sends t s n (sends-again r few) =
     let most : s .count + 1 ≤ t .repeats = omega arith in
     let e = runs-out _ _ (r .runs) (r .over) in
-    record { used-up = rw (e, le-ltb _ _ most); goes-on = λ _. rw e }
+    record { used-up = rw (e, le-ltb _ _ most); goes-on = λ _. rw (e, over-stopped (s .wait) n (r .over)) }
 
 module _ (c : Connection) (n : ℕ) where
   abbrev ch : Channel
@@ -89,7 +90,7 @@ module _ (c : Connection) (n : ℕ) where
         by-lt (Makes tells _) n wait (λ less. rw (still-runs wait n (λ runs over. omega arith))) λ over.
         by-le (Makes tells _) (c .settings .mntc) (c .attempt .repeats)
         (λ most. rw (runs-out wait n (omega arith) over, le-ltb _ _ most))
-        (λ few. rw (runs-out wait n (omega arith) over, lt-ltb _ _ few)))
+        (λ few. rw (runs-out wait n (omega arith) over, lt-ltb _ _ few, over-stopped wait n over)))
 
     -- on an open connection
     elapsed-told : (isRequesting c || isAgreeing c) ≡ false → {g : Passed} {x : ChannelAnswered}
@@ -104,12 +105,12 @@ module _ (c : Connection) (n : ℕ) where
         rw (live, none, sym (h .used-up) ∙ e, runs-out _ _ (w .runs) (w .over), lt-ltb _ _ more)
     elapsed-told none h (test-again e w few) =
         let most : ch .tests .unanswered + 1 ≤ ch .parameters .allowed = omega arith in
-        rw (live, none, sym (h .used-up) ∙ e, runs-out _ _ (w .runs) (w .over), le-ltb _ _ most, h .goes-on e)
+        rw (live, none, sym (h .used-up) ∙ e, runs-out _ _ (w .runs) (w .over), le-ltb _ _ most, over-stopped (ch .tests .wait) n (w .over), h .goes-on e)
 
   pub time-told : timeSays c n ≡ toldBy (timeTable c n)
   unfolding elapsed openElapsed elapsedAt
   time-told =
-      by (Makes tells _) (isClosed c) (λ e. rw (e, other-phase (c .phase) phaseClosed phaseRequesting e refl, other-phase (c .phase) phaseClosed phaseAgreeing e refl)) λ e.
+      by (Makes tells _) (isClosed c) (λ e. rw (e, other-phase (c .phase) 0 1 e refl, other-phase (c .phase) 0 2 e refl)) λ e.
       by-not (Makes tells _) (isOpen c)
       (λ o. attempt-told e (rw e at (not-false (isClosed c || isRequesting c || isAgreeing c) o)))
       (λ o. elapsed-told e (rw e at (not-true (isClosed c || isRequesting c || isAgreeing c) o)) (sends _ _ n (timeCase (ch .parameters .terms) (ch .sender) n)) (time-outcome ch n))
@@ -129,19 +130,19 @@ module _ (c : Connection) (m : List ℕ) where
     data-given : DataTurn (c .end .channel) → {h : Handed} → FrameCase (c .end .channel .parameters .terms) (c .end .channel .sender) m h
         → hands-on (handBy (c .end .channel) h (h .note)) ≡ toldBy (dueTable c m)
     unfolding frameOn
-    data-given t (none-due e) = rw (live, req, agr) (off _ _ _ _ (t .accept) (off _ _ _ _ (t .test) (off _ _ _ _ (t .ack) (rw e))))
+    data-given t (none-due e) = rw (live, req, agr) (off _ _ _ _ (t .accept) (off _ _ _ _ (test-same _ ∙ t .test) (off _ _ _ _ (t .ack) (rw (due-same _, e)))))
     data-given t (not-its-length d e) =
-        rw (live, req, agr) (off _ _ _ _ (t .accept) (off _ _ _ _ (t .test) (off _ _ _ _ (t .ack) (rw (frameDue-due _ d, ne-eqb _ _ e)))))
+        rw (live, req, agr) (off _ _ _ _ (t .accept) (off _ _ _ _ (test-same _ ∙ t .test) (off _ _ _ _ (t .ack) (rw (due-same _, frameDue-due _ d, ne-eqb _ _ e)))))
     data-given t (frame-out d e) =
-        rw (live, req, agr) (off _ _ _ _ (t .accept) (off _ _ _ _ (t .test) (off _ _ _ _ (t .ack) (rw (frameDue-due _ d, eq-eqb _ _ e)))))
+        rw (live, req, agr) (off _ _ _ _ (t .accept) (off _ _ _ _ (test-same _ ∙ t .test) (off _ _ _ _ (t .ack) (rw (due-same _, frameDue-due _ d, eq-eqb _ _ e, frame-same (c .end .channel) m e, out-same (c .end .channel))))))
 
     -- and whosever turn it is
     given-told : {h : Handed} {x : ChannelDue} → FrameCase (c .end .channel .parameters .terms) (c .end .channel .sender) m h → DueOutcome (c .end .channel) h x
         → hands-on x ≡ toldBy (dueTable c m)
     unfolding frameOn
     given-told f (accept-goes a) = rw (live, req, agr) (on _ _ _ _ a refl)
-    given-told f (test-goes a t) = rw (live, req, agr) (off _ _ _ _ a (on _ _ _ _ t refl))
-    given-told f (ack-goes a t k) = rw (live, req, agr) (off _ _ _ _ a (off _ _ _ _ t (on _ _ _ _ k refl)))
+    given-told f (test-goes a t) = rw (live, req, agr) (off _ _ _ _ a (on _ _ _ _ (test-same _ ∙ t) refl))
+    given-told f (ack-goes a t k) = rw (live, req, agr) (off _ _ _ _ a (off _ _ _ _ (test-same _ ∙ t) (on _ _ _ _ k refl)))
     given-told f (frame-goes t) = data-given t f
     given-told f (none-goes t) = data-given t f
     given-told f (other-length t) = data-given t f
@@ -150,9 +151,9 @@ module _ (c : Connection) (m : List ℕ) where
   unfolding dueOf closedDue requestDue openDue dueAt
   due-told =
       by (Makes hands-over _) (isClosed c)
-      (λ e. rw (e, other-phase (c .phase) phaseClosed phaseRequesting e refl, other-phase (c .phase) phaseClosed phaseAgreeing e refl) (by-not (Makes hands-over _) (c .leaving) (λ l. rw l) (λ l. rw l))) λ e.
+      (λ e. rw (e, other-phase (c .phase) 0 1 e refl, other-phase (c .phase) 0 2 e refl) (by-not (Makes hands-over _) (c .leaving) (λ l. rw l) (λ l. rw l))) λ e.
       by (Makes hands-over _) (isRequesting c)
-      (λ r. rw (e, r, other-phase (c .phase) phaseRequesting phaseAgreeing r refl) (by-not (Makes hands-over _) (c .attempt .due) (λ d. rw d) (λ d. rw d))) λ r.
+      (λ r. rw (e, r, other-phase (c .phase) 1 2 r refl) (by-not (Makes hands-over _) (c .attempt .due) (λ d. rw d) (λ d. rw d))) λ r.
       by (Makes hands-over _) (isAgreeing c)
       (λ a. rw (e, r, a) (by-not (Makes hands-over _) (c .attempt .due) (λ d. rw d) (λ d. rw d))) λ a.
       given-told e r a (frameCase (c .end .channel .parameters .terms) (c .end .channel .sender) m) (due-outcome (c .end .channel) m)

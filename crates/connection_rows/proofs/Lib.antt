@@ -1,6 +1,9 @@
 pub mod Tables
+pub mod Words
+pub mod Same
 pub mod Tests
 pub mod Bytes
 pub mod Arrival
 pub mod Calls
 pub mod Rows
+pub mod Demand1

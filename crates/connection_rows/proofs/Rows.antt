@@ -10,20 +10,13 @@ use lib.Dec.{eqb}
 use borrow.Author.Tests.{ne-eqb, not-true}
 use Rattle.laws.specs.If.{if_then_else_}
 use Rattle.laws.proofs.Cases.{either, and-first, and-second, or-first, or-second}
-use Rattle.telegram.specs.Kinds.{disconnectOf}
-use Rattle.telegram.specs.Cutting.{framesOf}
 use Rattle.settings.specs.declared.Settings.{Settings}
-use Rattle.sender.specs.Sending.{accepted}
-use Rattle.receiver.specs.Receiving.{waiting}
-use Rattle.receiver.proofs.Laws.{settled-leaves}
-use Rattle.channel.specs.Opened.{withSender, withReceiver}
 use Rattle.open_end.specs.declared.answers.Said.{Said}
-use Rattle.open_end.specs.Answers.{plain}
 use Rattle.connection.specs.declared.Connection.{Connection}
-use Rattle.connection.specs.Record.{isClosed, isRequesting, isAgreeing, closedRecord, leavingOn, requesting}
 use Rattle.connection.specs.Calls.{closedDue, dueOf}
-use Rattle.connection_rows.specs.Tables.{toldBy, Given, Says}
-use Rattle.connection_rows.specs.Rows.{isData, asksAck, otherId, noMessage, isHolding, ahead, isBeyond, atFirst, waitsUntaken, onChannel, askedForAck, thrownAway, finishes, recordAfter, bufferAfter, arrivalTable, arriveSays, openTable, openSays, recordLater, timeTable, timeSays, hands, handsNone, dueTable, dueSays, sendTable, sendSays, messageTaken, takeTable, takeSays, closeTable, closeSays}
+use Rattle.connection_rows.specs.Tables.{plain, toldBy, Given, Says}
+use Rattle.connection_rows.specs.Records.{isClosed, isRequesting, isAgreeing, closedRecord, leavingOn, asking, onSender, onReceiver}
+use Rattle.connection_rows.specs.Rows.{carriedBy, single, messageAccepted, isWaiting, isData, asksAck, otherId, noMessage, isHolding, ahead, isBeyond, atFirst, waitsUntaken, askedForAck, thrownAway, finishes, recordAfter, bufferAfter, arrivalTable, arriveSays, openTable, openSays, recordLater, timeTable, timeSays, hands, handsNone, dueTable, dueSays, sendTable, sendSays, messageTaken, takeTable, takeSays, closeTable, closeSays}
 use Rattle.connection_rows.proofs.Tables.{Leaving, given, says, every}
 use Rattle.connection_rows.proofs.Bytes.{telegram, ack-kind}
 use Rattle.connection_rows.proofs.Arrival.{arrive-told}
@@ -115,7 +108,7 @@ module _ (limit : ℕ) (c : Connection) (id : ℕ) (s b : List ℕ) where
       let free : isHolding c ≡ false = not-true (isHolding c) (search (and-first, and-second)) in
       let far : eqb (ahead c s) 0 ≡ false = not-true (eqb (ahead c s) 0) (search (and-first, and-second)) in
       let near : isBeyond c s ≡ false = not-true (isBeyond c s) (search (and-first, and-second)) in
-      let end : eqb (c .end .channel .sender .acked + ahead c s) (framesOf (c .end .channel .sender .length)) ≡ true = search (and-first, and-second) in
+      let end : carriedBy (c .end .channel .sender .length) (c .end .channel .sender .acked + ahead c s) ≡ true = search (and-first, and-second) in
       told-done ∙ rw (closed, same, req, agr, telegram k, k .data′, k .ack, k .accept, k .setup, some, free, far, near, end)
 
   -- "The message is done when its last frame is acknowledged, and the answer to that Ack says so"
@@ -129,10 +122,9 @@ module _ (limit : ℕ) (c : Connection) (id : ℕ) (s b : List ℕ) where
 pub asked-not-ready : (c : Connection) (s : List ℕ) → waitsUntaken c s ≡ true → asksAck s ≡ true
     → askedForAck c s .end .channel .receiver .ack ≡ record { due = true; ready = false; number = c .end .channel .receiver .at .expected }
 asked-not-ready c s w a =
-    let r = c .end .channel .receiver in
     let d : isData s ≡ true = search (and-first, and-second) in
-    let u : waiting r ≡ true = search (and-first, and-second) in
-    rw (d, a) (settled-leaves r true false (r .at) (r .complete) .ack ∙ rw u)
+    let u : isWaiting c ≡ true = search (and-first, and-second) in
+    rw (d, a, u)
 
 -- ---- open
 
@@ -140,7 +132,7 @@ module _ (c : Connection) (s : Settings) where
   pub open-row : (n : ℕ) → (openSays c s .0 .number ≡ n) ↔ Given n (openSays c s .1) (openTable c s)
   open-row = given (openTable c s) (open-told c s)
 
-  pub open-row-0 : Says 0 (requesting s) (openSays c s) (openTable c s)
+  pub open-row-0 : Says 0 (asking 1 s 0 0) (openSays c s) (openTable c s)
   open-row-0 = says _ (open-told c s) 0 refl
 
   pub open-row-4 : Says 4 c (openSays c s) (openTable c s)
@@ -180,7 +172,7 @@ unfolding dueOf closedDue
 closed-hands-none m = refl
 
 -- "closed, one A8 due"
-pub leaving-hands-one : (transmit : ℕ) (m : List ℕ) → dueSays (leavingOn transmit) m ≡ (plain 0, hands transmit disconnectOf closedRecord)
+pub leaving-hands-one : (transmit : ℕ) (m : List ℕ) → dueSays (leavingOn transmit) m ≡ (plain 0, hands transmit (single 0xA8) closedRecord)
 unfolding dueOf closedDue
 leaving-hands-one transmit m = refl
 
@@ -190,7 +182,7 @@ module _ (limit : ℕ) (c : Connection) (n : ℕ) where
   pub send-row : (m : ℕ) → (sendSays limit c n .0 .number ≡ m) ↔ Given m (sendSays limit c n .1) (sendTable limit c n)
   send-row = given (sendTable limit c n) (send-told limit c n)
 
-  pub send-row-0 : Says 0 (onChannel c (withSender (c .end .channel) (accepted (c .end .channel .sender) n))) (sendSays limit c n) (sendTable limit c n)
+  pub send-row-0 : Says 0 (onSender c (messageAccepted (c .end .channel .sender) n)) (sendSays limit c n) (sendTable limit c n)
   send-row-0 = says _ (send-told limit c n) 0 refl
 
   pub send-row-4 : Says 4 c (sendSays limit c n) (sendTable limit c n)
@@ -208,7 +200,7 @@ module _ (c : Connection) (room : ℕ) where
   pub take-row : (n : ℕ) → (takeSays c room .0 .number ≡ n) ↔ Given n (takeSays c room .1) (takeTable c room)
   take-row = given (takeTable c room) (take-told c room)
 
-  pub take-row-0 : Says 0 (c .end .channel .receiver .complete .length, onChannel c (withReceiver (c .end .channel) (messageTaken (c .end .channel .receiver)))) (takeSays c room) (takeTable c room)
+  pub take-row-0 : Says 0 (c .end .channel .receiver .complete .length, onReceiver c (messageTaken (c .end .channel .receiver))) (takeSays c room) (takeTable c room)
   take-row-0 = says _ (take-told c room) 0 refl
 
   pub take-row-4 : Says 4 (0, c) (takeSays c room) (takeTable c room)

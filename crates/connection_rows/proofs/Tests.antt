@@ -22,6 +22,10 @@ still-runs timer n h =
 pub stopped : (timer n : ℕ) → timer ≡ 0 → timer - n ≡ timer
 stopped timer n z = omega arith
 
+-- a timer that ran out too
+pub over-stopped : (timer n : ℕ) → timer ≤ n → timer - n ≡ 0
+over-stopped timer n h = omega arith
+
 -- bytes that reach a declared length just where EOM stands break no message
 pub unbroken : (last : Bool) (fill n : ℕ) → EndsThere last fill n → (ltb n fill || not last && leb n fill || last && ltb fill n) ≡ false
 unbroken true fill n e = rw (le-ltb n fill (omega arith), le-ltb fill n (omega arith))

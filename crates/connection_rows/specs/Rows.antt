@@ -1,59 +1,53 @@
--- 01, "Numbers we answer with": each call's rows in the order of 01, their conditions written from the record and the bytes.
+-- 01, "Numbers we answer with": each call's rows in the order of 01. What they ask and what they leave is written from the
+-- record's fields, numbers and bytes, apart from the definitions that the promises cite: of those only the calls are named here.
 -- proofs/Rows.antt proves that each call says and leaves what its table tells.
-use Prim.Native.Nat.{ℕ, _+_, _-_}
+use Prim.Native.Nat.{ℕ, _+_, _-_, _*_, _/_, _%_}
 use mathlib.Core.Bool.{Bool, true, false, not, _&&_, _||_}
-use mathlib.Core.List.{List}
-use lib.ListN.{length, drop, getD}
+use mathlib.Core.List.{List, [], _∷_, _++_}
+use lib.ListN.{length, take, drop, getD, replicate}
 use lib.Dec.{ltb, leb, eqb}
 use Rattle.laws.specs.If.{if_then_else_}
-use Rattle.telegram.specs.Cutting.{declaredOf, framesOf, frameAt}
-use Rattle.opening.specs.Opening.{requestId, clear, idOf, refusal, requestOf}
 use Rattle.telegram.specs.declared.payload.Payload.{Payload}
-use Rattle.telegram.specs.Kinds.{top, bit5, bit4, number, fields, ackOf, testOf, disconnectOf, setupOf, acceptOf}
-use Rattle.settings.specs.Settings.{allowed}
 use Rattle.settings.specs.declared.Settings.{Settings}
-use Rattle.sender.specs.Sending.{distance, heldFor, accepted, acknowledged, finished, again, advanced, frameDue, firstNumber, later as waitsLess}
 use Rattle.sender.specs.declared.Sender.{Sender}
-use Rattle.receiver.specs.Receiving.{none, waiting, first, kept, discarded, used, completed, copied, returned, ackHanded}
+use Rattle.receiver.specs.declared.Standing.{Standing}
+use Rattle.receiver.specs.declared.AckDue.{AckDue}
 use Rattle.receiver.specs.declared.Receiver.{Receiver}
 use Rattle.channel.specs.declared.Tests.{Tests}
 use Rattle.channel.specs.declared.Channel.{Channel}
-use Rattle.channel.specs.Opened.{withSender, withReceiver, withTests, withAccept, noneOut, restarted, later, ranOut, testDue}
 use Rattle.open_end.specs.declared.Frame.{Frame}
 use Rattle.open_end.specs.declared.answers.Said.{Said}
-use Rattle.open_end.specs.Answers.{plain}
-use Rattle.open_end.specs.OpenEnd.{noFrame, withChannel}
 use Rattle.connection.specs.declared.attempt.Attempt.{Attempt}
 use Rattle.connection.specs.declared.Connection.{Connection}
-use Rattle.connection.specs.Record.{isClosed, isRequesting, isAgreeing, isOpen, closedRecord, leavingOn, requesting, agreeing, ownFields, opened, withAttempt, withOpenEnd, hears}
-use Rattle.connection.specs.Calls.{waitsOn, repeatDue, attemptOut, opening, arrived, buffered, elapsed, dueOf, sentBy, takenBy, closed}
-use Rattle.connection_rows.specs.Tables.{row, Table, always, _orElse_}
+use Rattle.connection.specs.Calls.{opening, arrived, buffered, elapsed, dueOf, sentBy, takenBy, closed}
+use Rattle.connection_rows.specs.Records.{isClosed, isRequesting, isAgreeing, isOpen, closedRecord, leavingOn, asking, openedBy, onAttempt, onChannel, channelOf, onSender, onReceiver}
+use Rattle.connection_rows.specs.Tables.{plain, row, Table, always, _orElse_}
 
 -- ---- the kinds of frame, by their bytes
 
 -- "Data, 2 to 8 bytes: first byte 00, AR, EOM, number"
 unfoldable pub isData : List ℕ → Bool
-isData s = eqb (top (getD s 0 0)) 0 && leb 2 (length s) && leb (length s) 8
+isData s = ltb (getD s 0 0) 0x40 && ltb 1 (length s) && ltb (length s) 9
 
--- "AR 0 asks for an Ack"
-abbrev pub asksAck : List ℕ → Bool
-asksAck s = eqb (bit5 (getD s 0 0)) 0
+-- "AR 0 asks for an Ack": data below 0x20
+unfoldable pub asksAck : List ℕ → Bool
+asksAck s = ltb (getD s 0 0) 0x20
 
--- "EOM"
-abbrev pub isLast : List ℕ → Bool
-isLast s = eqb (bit4 (getD s 0 0)) 1
+-- "EOM": data of 0x10 to 0x1F and of 0x30 to 0x3F
+unfoldable pub isLast : List ℕ → Bool
+isLast s = leb 0x10 (getD s 0 0 % 0x20)
 
 -- the number of data and of an Ack
 abbrev pub numberIn : List ℕ → ℕ
-numberIn s = number (getD s 0 0)
+numberIn s = getD s 0 0 % 16
 
--- "Ack, 1 byte: 1 0 RS 1 number"
+-- "Ack, 1 byte: 1 0 RS 1 number": 0x90 to 0x9F, and 0xB0 to 0xBF
 unfoldable pub isAck : List ℕ → Bool
-isAck s = eqb (length s) 1 && eqb (top (getD s 0 0)) 2 && eqb (bit4 (getD s 0 0)) 1
+isAck s = eqb (length s) 1 && (leb 0x90 (getD s 0 0) && ltb (getD s 0 0) 0xA0 || leb 0xB0 (getD s 0 0) && ltb (getD s 0 0) 0xC0)
 
--- "RS 1 is ready"
-abbrev pub isReady : List ℕ → Bool
-isReady s = eqb (bit5 (getD s 0 0)) 1
+-- "RS 1 is ready": an Ack from 0xB0 on
+unfoldable pub isReady : List ℕ → Bool
+isReady s = leb 0xB0 (getD s 0 0)
 
 -- "One byte each: A3 test, A4 break, A8 disconnect"
 unfoldable pub isTest : List ℕ → Bool
@@ -81,20 +75,24 @@ isTelegram s = isData s || isAck s || isTest s || isBreak s || isDisconnect s ||
 
 -- D6, D7, D8: "of these only length, byte 0 and opcode are checked"
 unfoldable pub isRefusal : List ℕ → Bool
-isRefusal s = eqb (length s) 7 && eqb (getD s 0 0) 0x00 && refusal (getD s 1 0)
+isRefusal s = eqb (length s) 7 && eqb (getD s 0 0) 0x00 && (leb 0xD6 (getD s 1 0) && leb (getD s 1 0) 0xD8)
 
--- "7 bytes: 00, D0, our receive ID low and high, our transmit ID low and high, 01"; the other bits of the high bytes are 0
+-- the ID of a low and a high byte
+abbrev pub idOf : (low high : ℕ) → ℕ
+idOf low high = low + 256 * high
+
+-- "7 bytes: 00, D0, our receive ID low and high, our transmit ID low and high, 01"; "bits 2-0 belong to the ID", and the other bits of the high bytes are 0
 unfoldable pub isPositive : (receive : ℕ) → List ℕ → Bool
 isPositive receive s =
     eqb (length s) 7 && eqb (getD s 0 0) 0x00 && eqb (getD s 1 0) 0xD0
-    && clear (getD s 3 0) && eqb (idOf (getD s 2 0) (getD s 3 0)) receive
-    && clear (getD s 5 0) && eqb (getD s 6 0) 0x01
+    && ltb (getD s 3 0) 8 && eqb (idOf (getD s 2 0) (getD s 3 0)) receive
+    && ltb (getD s 5 0) 8 && eqb (getD s 6 0) 0x01
 
 -- ---- a frame arrives: the conditions
 
 -- row 3, "another CAN ID": "0x200 + unit until D0, then our receive ID"
-abbrev pub otherId : Connection → ℕ → Bool
-otherId c id = not (hears c id)
+unfoldable pub otherId : Connection → ℕ → Bool
+otherId c id = not (eqb id (if isRequesting c then 0x200 + c .settings .unit else c .end .receive))
 
 -- row 1, "badly formed": while the D0 is awaited no reply, and then no telegram
 abbrev pub badForm : Connection → List ℕ → Bool
@@ -118,7 +116,7 @@ kindNotDue c s = tooEarly c s || notAwaited c s || isSetup s || noTestOut c s
 
 -- row 2, "A1 block size 0 or over 15"
 abbrev pub badBlock : List ℕ → Bool
-badBlock s = isAccept s && (eqb (getD s 1 0) 0 || ltb 15 (getD s 1 0))
+badBlock s = isAccept s && (eqb (getD s 1 0) 0 || leb 16 (getD s 1 0))
 
 -- row 11, "D6, D7 or D8"
 abbrev pub refused : Connection → List ℕ → Bool
@@ -128,9 +126,9 @@ refused c s = isRequesting c && isRefusal s
 abbrev pub outOfPlace : Connection → List ℕ → Bool
 outOfPlace c s = isOpen c && isData s && not (eqb (numberIn s) (c .end .channel .receiver .at .expected))
 
--- "how far it lies ahead, modulo 16, of the oldest unacknowledged frame"
-abbrev pub ahead : Connection → List ℕ → ℕ
-ahead c s = distance (c .end .channel .sender) (numberIn s)
+-- "how far it lies ahead, modulo 16, of the oldest unacknowledged frame": 15 is -1 modulo 16
+unfoldable pub ahead : Connection → List ℕ → ℕ
+ahead c s = (numberIn s + 15 * c .end .channel .sender .oldest) % 16
 
 -- ".. beyond that range": "the number of unacknowledged frames of this block ever handed over"
 abbrev pub isBeyond : Connection → List ℕ → Bool
@@ -159,9 +157,13 @@ notReadyTooOften c s =
 abbrev pub inOrder : Connection → List ℕ → Bool
 inOrder c s = isOpen c && isData s && eqb (numberIn s) (c .end .channel .receiver .at .expected)
 
+-- a complete message waits untaken
+abbrev pub isWaiting : Connection → Bool
+isWaiting c = ltb 0 (c .end .channel .receiver .complete .length)
+
 -- row 5, "in-order data while one waits untaken"
 abbrev pub waitsUntaken : Connection → List ℕ → Bool
-waitsUntaken c s = inOrder c s && waiting (c .end .channel .receiver)
+waitsUntaken c s = inOrder c s && isWaiting c
 
 -- "thrown away .. up to and including the next EOM"
 unfoldable pub throwsAway : Connection → Bool
@@ -171,13 +173,13 @@ throwsAway c = c .end .channel .receiver .at .discarding
 abbrev pub isJudged : Connection → List ℕ → Bool
 isJudged c s = inOrder c s && not (throwsAway c)
 
--- the next data is a message's first
+-- the next data is a message's first: none is begun
 abbrev pub atFirst : Connection → Bool
-atFirst c = first (c .end .channel .receiver)
+atFirst c = eqb (c .end .channel .receiver .at .begun .length) 0
 
 -- the declared length of the message that data belongs to: "Two length bytes, high first"
 abbrev pub declared : Connection → List ℕ → ℕ
-declared c s = if atFirst c then declaredOf (getD s 1 0) (getD s 2 0) else c .end .channel .receiver .at .begun .length
+declared c s = if atFirst c then 256 * getD s 1 0 + getD s 2 0 else c .end .channel .receiver .at .begun .length
 
 -- the message's bytes with those of this data: "length bytes left out"
 abbrev pub reached : Connection → List ℕ → ℕ
@@ -203,63 +205,116 @@ shortFirst c s room = isJudged c s && atFirst c && ltb room (declared c s)
 
 -- ---- a frame arrives: what is left
 
--- a record with another channel
-abbrev pub onChannel : Connection → Channel → Connection
-onChannel c ch = withOpenEnd c (withChannel (c .end) ch)
+-- "an Ack due with the number now expected .. a newer due Ack replaces an older. It says ready, except while a complete message waited untaken before the frame came"
+abbrev pub ackThen : Connection → (asks : Bool) → (expected : ℕ) → AckDue
+ackThen c asks expected = if asks then record { due = true; ready = not (isWaiting c); number = expected } else c .end .channel .receiver .ack
 
 -- "nothing changes, except an asked-for Ack"; where one becomes due, a break returns to this place
 abbrev pub askedForAck : Connection → List ℕ → Connection
-askedForAck c s = onChannel c (withReceiver (c .end .channel) (kept (c .end .channel .receiver) (isData s && asksAck s)))
+askedForAck c s =
+    (let r = c .end .channel .receiver in
+    let asks = isData s && asksAck s in
+    onReceiver c (record { at = r .at; back = if asks then r .at else r .back; complete = r .complete; ack = ackThen c asks (r .at .expected) }))
 
--- "thrown away": numbered and acknowledged, and so are those that follow up to and including the next EOM
+-- a frame that is numbered leaves the next number expected, the message begun with its bytes so far, and a complete message or none;
+-- a break returns to "where it stood when an Ack last became due or a message last ended, whichever is later"
+abbrev pub numberedBy : Connection → List ℕ → (discarding : Bool) → (begun fill complete : ℕ) → Receiver
+numberedBy c s discarding begun fill complete =
+    (let r = c .end .channel .receiver in
+    let expected = (r .at .expected + 1) % 16 in
+    let standing : Standing = record { expected = expected; discarding = discarding; begun = record { length = begun }; fill = fill } in
+    record {
+      at = standing;
+      back = if asksAck s || isLast s then standing else r .back;
+      complete = record { length = complete };
+      ack = ackThen c (asksAck s) expected;
+    })
+
+-- the receiving half after data that is "thrown away", and "if it had no EOM, the following .. up to and including the next EOM"
+abbrev pub thrown : Connection → List ℕ → Receiver
+thrown c s = numberedBy c s (not (isLast s)) 0 0 (c .end .channel .receiver .complete .length)
+
+-- "thrown away": "That frame is numbered and writes nothing"
 abbrev pub thrownAway : Connection → List ℕ → Connection
-thrownAway c s = onChannel c (withReceiver (c .end .channel) (discarded (c .end .channel .receiver) (asksAck s) (isLast s)))
+thrownAway c s = onReceiver c (thrown c s)
 
 -- an Ack "from 1 up to the number of unacknowledged frames .. acknowledges that many", of a message in sending and with no hold
 abbrev pub acknowledges : Connection → List ℕ → Bool
 acknowledges c s =
     isOpen c && isAck s && not (noMessage c) && not (isHolding c) && not (eqb (ahead c s) 0) && not (isBeyond c s)
 
+-- as many frames of seven carry n bytes behind two length bytes: all of these, and no frame more
+unfoldable pub carriedBy : (n frames : ℕ) → Bool
+carriedBy n frames = leb (n + 2) (7 * frames) && ltb (7 * frames) (n + 9)
+
 -- "The message is done when its last frame is acknowledged, and the answer to that Ack says so"
 abbrev pub finishes : Connection → List ℕ → Bool
-finishes c s =
-    acknowledges c s && eqb (c .end .channel .sender .acked + ahead c s) (framesOf (c .end .channel .sender .length))
+finishes c s = acknowledges c s && carriedBy (c .end .channel .sender .length) (c .end .channel .sender .acked + ahead c s)
 
--- the sending half after an Ack that is used
+-- RS 0: "data is held for T_WAIT"
+abbrev pub holdsFor : Connection → List ℕ → ℕ
+holdsFor c s = if isReady s then 0 else c .end .channel .parameters .terms .«t_wait»
+
+-- the sending half after an Ack that is used: of distance 0, which "adds one to the count"; of the last frame; or of others, the Ack's number being that of the oldest unacknowledged frame then
 abbrev pub sendingAfter : Connection → List ℕ → Sender
 sendingAfter c s =
-    if eqb (ahead c s) 0 then again (c .end .channel .sender) (c .end .channel .parameters .terms .«t_wait») (c .end .channel .sender .gap)
-    else if finishes c s then finished (c .end .channel .sender) (ahead c s) (heldFor (c .end .channel .parameters .terms) (isReady s))
-    else acknowledged (c .end .channel .sender) (ahead c s) (heldFor (c .end .channel .parameters .terms) (isReady s))
+    (let t = c .end .channel .sender in
+    if eqb (ahead c s) 0 then
+    record { length = t .length; acked = t .acked; high = t .high; next = t .acked; oldest = t .oldest; count = t .count + 1; wait = 0; hold = holdsFor c s; gap = t .gap }
+    else if finishes c s then
+    record { length = 0; acked = 0; high = 0; next = 0; oldest = numberIn s; count = 0; wait = 0; hold = holdsFor c s; gap = t .gap }
+    else
+    record { length = t .length; acked = t .acked + ahead c s; high = t .high; next = t .acked + ahead c s; oldest = numberIn s; count = 0; wait = 0; hold = holdsFor c s; gap = t .gap })
 
--- the receiving half after data that is used or thrown away
+-- the receiving half after data that is thrown away, completes its message, or goes into it
 abbrev pub receivingAfter : Connection → List ℕ → Receiver
 receivingAfter c s =
-    if throwsAway c then discarded (c .end .channel .receiver) (asksAck s) (isLast s)
-    else if isLast s then completed (c .end .channel .receiver) (asksAck s) (record { length = declared c s })
-    else used (c .end .channel .receiver) (asksAck s) (record { length = declared c s }) (reached c s)
+    if throwsAway c then thrown c s
+    else if isLast s then numberedBy c s false 0 0 (declared c s)
+    else numberedBy c s false (declared c s) (reached c s) (c .end .channel .receiver .complete .length)
 
--- an open channel after a telegram answered 0
+-- "the receiver returns to where it stood ..; a complete message stays, a taken one stays taken"
+abbrev pub breakReturns : Receiver → Receiver
+breakReturns r = record { at = r .back; back = r .back; complete = r .complete; ack = r .ack }
+
+-- the tests with their interval from its start: "after the test interval without a frame handed over or answered 0"
+abbrev pub intervalAnew : Channel → Tests
+intervalAnew ch =
+    (let t = ch .tests in
+    record { out = t .out; again = t .again; wait = t .wait; unanswered = t .unanswered; interval = ch .parameters .interval })
+
+-- an A1 answers a test: no test is out or due, and it "sets the unanswered count to 0"
+abbrev pub testAnswered : Channel → Tests
+testAnswered ch = record { out = false; again = false; wait = 0; unanswered = 0; interval = ch .parameters .interval }
+
+-- an open channel after a telegram answered 0: each half by its own kinds, "our A1 .. becomes due" by a test, and the interval starts again
 abbrev pub channelAfter : Connection → List ℕ → Channel
 channelAfter c s =
-    restarted
-    (if isData s then withReceiver (c .end .channel) (receivingAfter c s)
-    else if isAck s then withSender (c .end .channel) (sendingAfter c s)
-    else if isTest s then withAccept (c .end .channel) true
-    else if isBreak s then withReceiver (c .end .channel) (returned (c .end .channel .receiver))
-    else withTests (c .end .channel) (noneOut (c .end .channel .tests .interval)))
+    (let ch = c .end .channel in
+    channelOf ch
+    (if isAck s then sendingAfter c s else ch .sender)
+    (if isData s then receivingAfter c s else if isBreak s then breakReturns (ch .receiver) else ch .receiver)
+    (if isAccept s then testAnswered ch else intervalAnew ch)
+    (isTest s || ch .accept))
 
 -- the record after a frame answered 0: the D0's transmit ID, a disconnect, the A1 that opens, or a telegram on the open channel
 abbrev pub recordAfter : Connection → List ℕ → Connection
 recordAfter c s =
-    if isRequesting c then agreeing c (idOf (getD s 4 0) (getD s 5 0))
+    if isRequesting c then asking 2 (c .settings) (idOf (getD s 4 0) (getD s 5 0)) (c .settings .receive)
     else if isDisconnect s then leavingOn (c .end .transmit)
-    else if isAgreeing c then opened c (fields s)
+    else if isAgreeing c then openedBy c (getD s 1 0) (getD s 4 0)
     else onChannel c (channelAfter c s)
 
--- the buffer after a frame answered 0: data that is not thrown away is copied "behind what already stands there"
+-- the buffer with the bytes p from a place on, "and nothing else in the buffer changes"
+abbrev pub writtenAt : (at : ℕ) → (p b : List ℕ) → List ℕ
+writtenAt at p b = take at b ++ (p ++ drop (at + length p) b)
+
+-- the buffer after a frame answered 0: data that is not thrown away is copied "behind what already stands there, length bytes left out"
 abbrev pub bufferAfter : Connection → List ℕ → (b : List ℕ) → List ℕ
-bufferAfter c s b = if isJudged c s then copied (c .end .channel .receiver) (drop 1 s) b else b
+bufferAfter c s b =
+    if not (isJudged c s) then b
+    else if atFirst c then writtenAt 0 (drop 3 s) b
+    else writtenAt (c .end .channel .receiver .at .fill) (drop 1 s) b
 
 -- ---- the tables
 
@@ -287,12 +342,18 @@ arriveSays limit c id s b =
 
 -- ---- open
 
+-- row 10, "a setting out of range": receive ID 0..0x7FF, unit 0x00..0xEF, block size 1..15, T1's scale not 0, T_E 1..10,000, T_WAIT from 1; the others are free in their widths
+unfoldable pub inRange : Settings → Bool
+inRange s =
+    ltb (s .receive) 0x800 && ltb (s .unit) 0xF0 && ltb 0 (s .block) && ltb (s .block) 16
+    && ltb 0 (s .t1 % 64) && ltb 0 (s .«t_e») && ltb (s .«t_e») 10001 && ltb 0 (s .«t_wait»)
+
 -- "Open: 4 if not closed, then 10"
 abbrev pub openTable : Connection → Settings → Table Connection
 openTable c s =
     row (not (isClosed c)) 4 c
-    orElse row (not (allowed s)) 10 c
-    orElse always (plain 0) (requesting s)
+    orElse row (not (inRange s)) 10 c
+    orElse always (plain 0) (asking 1 s 0 0)
 
 -- what an open says and leaves
 abbrev pub openSays : Connection → Settings → Said × Connection
@@ -321,25 +382,36 @@ testsUsedUp c n =
     isOpen c && runsOut (c .end .channel .tests .wait) n
     && ltb (c .end .channel .parameters .allowed) (c .end .channel .tests .unanswered + 1)
 
+-- one more where a timer ran out
+abbrev pub oneMore : Bool → ℕ → ℕ
+oneMore out n = if out then n + 1 else n
+
 -- a request while a reply is awaited, n tenths later: a wait that runs out makes a repeat due
 abbrev pub attemptAfter : Attempt → ℕ → Attempt
-attemptAfter a n = if runsOut (a .wait) n then repeatDue a else waitsOn a n
+attemptAfter a n =
+    (let out = runsOut (a .wait) n in
+    record { due = out || a .due; asked = a .asked; wait = a .wait - n; repeats = oneMore out (a .repeats) })
 
 -- the tests n tenths later: "a wait that runs out adds one and makes another test due"
 abbrev pub testsAfter : Tests → ℕ → Tests
-testsAfter t n = if runsOut (t .wait) n then ranOut t n else later t n
+testsAfter t n =
+    (let out = runsOut (t .wait) n in
+    record { out = t .out; again = out || t .again; wait = t .wait - n; unanswered = oneMore out (t .unanswered); interval = t .interval - n })
 
 -- the sending half n tenths later: "A wait that runs out adds one to the repeat count and sends again from the oldest unacknowledged frame"
 abbrev pub sendingLater : Sender → ℕ → Sender
-sendingLater s n = if runsOut (s .wait) n then again s (s .hold - n) (s .gap - n) else waitsLess s n
+sendingLater s n =
+    (let out = runsOut (s .wait) n in
+    let next = if out then s .acked else s .next in
+    record { length = s .length; acked = s .acked; high = s .high; next = next; oldest = s .oldest; count = oneMore out (s .count); wait = s .wait - n; hold = s .hold - n; gap = s .gap - n })
 
 -- "All timers that end in one time call take effect"
 abbrev pub recordLater : Connection → ℕ → Connection
 recordLater c n =
+    (let ch = c .end .channel in
     if isClosed c then c
-    else if isRequesting c || isAgreeing c then withAttempt c (attemptAfter (c .attempt) n)
-    else onChannel c
-    (withTests (withSender (c .end .channel) (sendingLater (c .end .channel .sender) n)) (testsAfter (c .end .channel .tests) n))
+    else if isRequesting c || isAgreeing c then onAttempt c (attemptAfter (c .attempt) n)
+    else onChannel c (channelOf ch (sendingLater (ch .sender) n) (ch .receiver) (testsAfter (ch .tests) n) (ch .accept)))
 
 -- "Time and due calls are good in every state": 0, or 8
 abbrev pub timeTable : Connection → ℕ → Table Connection
@@ -359,32 +431,103 @@ hands id p c = (true, record { id = id; payload = p }, c)
 
 -- no frame, and the record as it was
 abbrev pub handsNone : Connection → Bool × Frame × Connection
-handsNone c = (false, noFrame, c)
+handsNone c = (false, record { id = 0; payload = record { len = 0; bytes = 0 ∷ 0 ∷ 0 ∷ 0 ∷ 0 ∷ 0 ∷ 0 ∷ 0 ∷ [] } }, c)
+
+-- one byte: an Ack, A3 or A8
+abbrev pub single : ℕ → Payload
+single b = record { len = 1; bytes = b ∷ 0 ∷ 0 ∷ 0 ∷ 0 ∷ 0 ∷ 0 ∷ 0 ∷ [] }
+
+-- "A0, block size, T1, FF, T3, FF", and "A1 with the same fields"
+abbrev pub sixBytes : (code block t1 t3 : ℕ) → Payload
+sixBytes code block t1 t3 = record { len = 6; bytes = code ∷ block ∷ t1 ∷ 0xFF ∷ t3 ∷ 0xFF ∷ 0 ∷ 0 ∷ [] }
+
+-- "7 bytes: unit, C0, 00, 10, receive ID low, receive ID high, 01"
+abbrev pub c0 : Settings → Payload
+c0 s = record { len = 7; bytes = s .unit ∷ 0xC0 ∷ 0x00 ∷ 0x10 ∷ s .receive % 256 ∷ s .receive / 256 % 8 ∷ 0x01 ∷ 0 ∷ [] }
+
+-- the bytes s, and zeros behind them
+abbrev pub padded : List ℕ → Payload
+padded s = record { len = length s; bytes = s ++ replicate (8 - length s) 0 }
+
+-- "With none out, a test goes out after the test interval .., and never while data is unacknowledged", an interval of 0 meaning no tests; or "another", after a wait that ran out
+unfoldable pub testDue : Channel → Bool
+testDue ch =
+    leb (ch .sender .high) (ch .sender .acked)
+    && (ch .tests .again || not (ch .tests .out) && not (eqb (ch .parameters .interval) 0) && eqb (ch .tests .interval) 0)
 
 -- a test handed over "is out", and "waits T1"
 abbrev pub testOut : Channel → Channel
-testOut c =
-    withTests c
-    (record { out = true; again = false; wait = c .parameters .terms .t1; unanswered = c .tests .unanswered; interval = c .tests .interval })
+testOut ch =
+    (let t : Tests = record { out = true; again = false; wait = ch .parameters .terms .t1; unanswered = ch .tests .unanswered; interval = ch .parameters .interval } in
+    channelOf ch (ch .sender) (ch .receiver) t (ch .accept))
+
+-- our A1 handed over
+abbrev pub acceptOut : Channel → Channel
+acceptOut ch = channelOf ch (ch .sender) (ch .receiver) (intervalAnew ch) false
+
+-- the due Ack handed over
+abbrev pub ackOut : Channel → Channel
+ackOut ch =
+    (let r = ch .receiver in
+    let none : AckDue = record { due = false; ready = false; number = 0 } in
+    channelOf ch (ch .sender) (record { at = r .at; back = r .back; complete = r .complete; ack = none }) (intervalAnew ch) (ch .accept))
+
+-- "waits T_E from each hand-over"
+abbrev pub requestOut : Connection → Connection
+requestOut c = onAttempt c (record { due = false; asked = true; wait = c .settings .«t_e»; repeats = c .attempt .repeats })
+
+-- "with it over, and no wait for an Ack or hold running, the next frame of the message in sending is due": the frames before it leave some of the message and its two length bytes
+unfoldable pub dataDue : Sender → Bool
+dataDue s =
+    not (eqb (s .length) 0) && eqb (s .wait) 0 && eqb (s .hold) 0 && eqb (s .gap) 0 && ltb (7 * s .next) (s .length + 2)
+
+-- "EOM on the last": the frame behind k others of a message of n bytes
+unfoldable pub isEnd : (n k : ℕ) → Bool
+isEnd n k = carriedBy n (k + 1)
+
+-- "AR on every frame whose place in the message (from 1) is a multiple of the block size, and on the last"
+unfoldable pub withAR : (block n k : ℕ) → Bool
+withAR block n k = eqb (block * ((k + 1) / block)) (k + 1) || isEnd n k
+
+-- a first byte: "00, AR, EOM, number (4 bits); AR 0 asks for an Ack"
+unfoldable pub firstByte : (asks last : Bool) → (number : ℕ) → ℕ
+firstByte asks last number = (if last then 0x10 else 0x00) + (if asks then 0x00 else 0x20) + number
+
+-- "Two length bytes, high first, then the message, cut in sevens": the next of them behind its first byte, with its number counting on from the oldest unacknowledged frame's
+abbrev pub dataOf : Channel → (m : List ℕ) → Payload
+dataOf ch m =
+    (let s = ch .sender in
+    padded
+    (firstByte (withAR (ch .parameters .terms .block) (s .length) (s .next)) (isEnd (s .length) (s .next)) ((s .oldest + 15 * s .acked + s .next) % 16)
+    ∷ take 7 (drop (7 * s .next) (length m / 256 % 256 ∷ length m % 256 ∷ m))))
+
+-- data handed over: "At least the peer's T3 lies between data frames, running from each hand-over"; "After the frame with AR the sender waits its own T1"; the frames ever handed over are counted
+abbrev pub dataOut : Channel → Channel
+dataOut ch =
+    (let s = ch .sender in
+    let t = ch .parameters .terms in
+    let ever = if ltb (s .next) (s .high) then s .high else s .next + 1 in
+    let wait = if withAR (t .block) (s .length) (s .next) then t .t1 else 0 in
+    let out : Sender = record { length = s .length; acked = s .acked; high = ever; next = s .next + 1; oldest = s .oldest; count = s .count; wait = wait; hold = s .hold; gap = t .t3 } in
+    channelOf ch out (ch .receiver) (intervalAnew ch) (ch .accept))
 
 -- "Sending order .. CA and test, break, Ack, then data, CS, DC. Ties (house): CA, test; DC, CS, data"; row 7, "lent message not of the accepted length", "only when the frame to hand over is data"
 abbrev pub dueTable : Connection → (m : List ℕ) → Table (Bool × Frame × Connection)
 dueTable c m =
-    row (isOpen c && c .end .channel .accept) 0
-    (hands (c .end .transmit) (acceptOf (c .end .channel .parameters .own)) (onChannel c (restarted (withAccept (c .end .channel) false))))
-    orElse row (isOpen c && testDue (c .end .channel)) 0 (hands (c .end .transmit) testOf (onChannel c (restarted (testOut (c .end .channel)))))
-    orElse row (isOpen c && c .end .channel .receiver .ack .due) 0
-    (hands (c .end .transmit) (ackOf (c .end .channel .receiver .ack .ready) (c .end .channel .receiver .ack .number))
-    (onChannel c (restarted (withReceiver (c .end .channel) (ackHanded (c .end .channel .receiver))))))
-    orElse row (isClosed c && c .leaving) 0 (hands (c .end .transmit) disconnectOf closedRecord)
-    orElse row (isRequesting c && c .attempt .due) 0
-    (hands requestId (requestOf (c .settings .unit) (c .settings .receive)) (withAttempt c (attemptOut c)))
-    orElse row (isAgreeing c && c .attempt .due) 0 (hands (c .end .transmit) (setupOf (ownFields (c .settings))) (withAttempt c (attemptOut c)))
-    orElse row (isOpen c && frameDue (c .end .channel .sender) && not (eqb (length m) (c .end .channel .sender .length))) 7 (handsNone c)
-    orElse row (isOpen c && frameDue (c .end .channel .sender)) 0
-    (hands (c .end .transmit) (frameAt m (c .end .channel .parameters .terms .block) (firstNumber (c .end .channel .sender)) (c .end .channel .sender .next))
-    (onChannel c (restarted (withSender (c .end .channel) (advanced (c .end .channel .parameters .terms) (c .end .channel .sender))))))
-    orElse always (plain 0) (handsNone c)
+    (let ch = c .end .channel in
+    let own = ch .parameters .own in
+    let ack = ch .receiver .ack in
+    let set = c .settings in
+    row (isOpen c && ch .accept) 0 (hands (c .end .transmit) (sixBytes 0xA1 (own .block) (own .t1) (own .t3)) (onChannel c (acceptOut ch)))
+    orElse row (isOpen c && testDue ch) 0 (hands (c .end .transmit) (single 0xA3) (onChannel c (testOut ch)))
+    orElse row (isOpen c && ack .due) 0
+    (hands (c .end .transmit) (single ((if ack .ready then 0xB0 else 0x90) + ack .number % 16)) (onChannel c (ackOut ch)))
+    orElse row (isClosed c && c .leaving) 0 (hands (c .end .transmit) (single 0xA8) closedRecord)
+    orElse row (isRequesting c && c .attempt .due) 0 (hands 0x200 (c0 set) (requestOut c))
+    orElse row (isAgreeing c && c .attempt .due) 0 (hands (c .end .transmit) (sixBytes 0xA0 (set .block) (set .t1) (set .t3)) (requestOut c))
+    orElse row (isOpen c && dataDue (ch .sender) && not (eqb (length m) (ch .sender .length))) 7 (handsNone c)
+    orElse row (isOpen c && dataDue (ch .sender)) 0 (hands (c .end .transmit) (dataOf ch m) (onChannel c (dataOut ch)))
+    orElse always (plain 0) (handsNone c))
 
 -- what a due call says, hands over and leaves
 abbrev pub dueSays : Connection → (m : List ℕ) → Said × (Bool × Frame × Connection)
@@ -392,13 +535,17 @@ dueSays c m = (dueOf c m .told .said, (dueOf c m .given, dueOf c m .frame, dueOf
 
 -- ---- send, take and close
 
+-- a message of n bytes in sending, from its first frame on; its first frame's number is the next one, and a hold or T3 left from before goes on
+abbrev pub messageAccepted : Sender → (n : ℕ) → Sender
+messageAccepted s n = record { length = n; acked = 0; high = 0; next = 0; oldest = s .oldest; count = 0; wait = 0; hold = s .hold; gap = s .gap }
+
 -- "Sending: 4, 5, 6": "send while a message is unfinished", "message to send empty or over 1,024"
 abbrev pub sendTable : (limit : ℕ) → Connection → (n : ℕ) → Table Connection
 sendTable limit c n =
     row (not (isOpen c)) 4 c
     orElse row (not (noMessage c)) 5 c
     orElse row (eqb n 0 || ltb limit n) 6 c
-    orElse always (plain 0) (onChannel c (withSender (c .end .channel) (accepted (c .end .channel .sender) n)))
+    orElse always (plain 0) (onSender c (messageAccepted (c .end .channel .sender) n))
 
 -- what a send says and leaves
 abbrev pub sendSays : (limit : ℕ) → Connection → (n : ℕ) → Said × Connection
@@ -406,16 +553,15 @@ sendSays limit c n = (sentBy limit c n .told .said, sentBy limit c n .connection
 
 -- the receiving half once its message is taken
 abbrev pub messageTaken : Receiver → Receiver
-messageTaken r = record { at = r .at; back = r .back; complete = none; ack = r .ack }
+messageTaken r = record { at = r .at; back = r .back; complete = record { length = 0 }; ack = r .ack }
 
 -- "Take: 4, 5, 7": "take with none complete", "lent buffer shorter than the declared length"; what is shown has the declared length
 abbrev pub takeTable : Connection → (room : ℕ) → Table (ℕ × Connection)
 takeTable c room =
     row (not (isOpen c)) 4 (0, c)
-    orElse row (not (waiting (c .end .channel .receiver))) 5 (0, c)
+    orElse row (not (isWaiting c)) 5 (0, c)
     orElse row (ltb room (c .end .channel .receiver .complete .length)) 7 (0, c)
-    orElse always (plain 0)
-    (c .end .channel .receiver .complete .length, onChannel c (withReceiver (c .end .channel) (messageTaken (c .end .channel .receiver))))
+    orElse always (plain 0) (c .end .channel .receiver .complete .length, onReceiver c (messageTaken (c .end .channel .receiver)))
 
 -- what a take says, the length that it shows, and what it leaves
 abbrev pub takeSays : Connection → (room : ℕ) → Said × (ℕ × Connection)

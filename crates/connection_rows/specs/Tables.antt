@@ -5,7 +5,10 @@ use mathlib.Core.Logic.{_⊎_, _↔_}
 use mathlib.Core.Path.{_≡_}
 use Rattle.laws.specs.If.{if_then_else_}
 use Rattle.open_end.specs.declared.answers.Said.{Said}
-use Rattle.open_end.specs.Answers.{plain}
+
+-- a number of the table with nothing more to say
+abbrev pub plain : ℕ → Said
+plain n = record { number = n; done = false; opcode = 0 }
 
 -- a row: its condition, what is said, and what it leaves
 pub record Row (A : Type 0) : Type 0 where

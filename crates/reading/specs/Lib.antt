@@ -1,1 +1,3 @@
 pub mod Reading
+pub mod Demand2
+pub mod Lists

@@ -4,3 +4,6 @@ pub mod Acks
 pub mod Time
 pub mod Frames
 pub mod Writing
+pub mod Rules
+pub mod FrameRules
+pub mod Adding

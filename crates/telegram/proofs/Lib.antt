@@ -1,3 +1,5 @@
 pub mod Bytes
 pub mod RoundTrip
+pub mod Forms
 pub mod Cut
+pub mod Rules

@@ -34,7 +34,7 @@ halves : (q r : ℕ) → r < 16 → Halves q r (16 * q + r)
 halves q r h = omega arith
 
 -- one byte with the upper half 1 0 RS 1 is an Ack
-upper-ack : (q r : ℕ) → q / 4 ≡ 2 → q % 2 ≡ 1 → r < 16 → sorted ((16 * q + r) ∷ []) ≡ record { kind = Ack (eqb (q / 2 % 2) 1) r }
+pub upper-ack : (q r : ℕ) → q / 4 ≡ 2 → q % 2 ≡ 1 → r < 16 → sorted ((16 * q + r) ∷ []) ≡ record { kind = Ack (eqb (q / 2 % 2) 1) r }
 unfolding kindOf
 upper-ack q r f g h =
     let b = halves q r h in
@@ -76,7 +76,7 @@ parameters-length p = (refl, refl)
 -- data
 
 -- a first byte with the upper half 00 AR EOM, before one to seven others, makes data
-upper-data : (q r : ℕ) (p : List ℕ) → q < 4 → r < 16 → 1 ≤ length p → length p ≤ 7
+pub upper-data : (q r : ℕ) (p : List ℕ) → q < 4 → r < 16 → 1 ≤ length p → length p ≤ 7
     → sorted ((16 * q + r) ∷ p) ≡ record { kind = Data (eqb (q / 2 % 2) 0) (eqb (q % 2) 1) r }
 unfolding kindOf
 upper-data q r p f g h k =

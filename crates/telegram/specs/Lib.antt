@@ -3,3 +3,4 @@ pub mod Outgoing
 pub mod Kinds
 pub mod Cutting
 pub mod Published
+pub mod Forms

@@ -1,0 +1,272 @@
+-- The rules of a record in other words: phases as numbers, requests and replies as bytes, and whole records field by field, none through the definitions that they speak of.
+use Prim.Native.Nat.{ℕ, _+_, _-_, _*_, _/_, _%_, _<_, _≤_}
+use native.Mathlib.Omega.{arith}
+use mathlib.Core.Bool.{Bool, true, false}
+use mathlib.Core.List.{List, [], _∷_}
+use mathlib.Core.Logic.{_≢_, _⊎_, inl, inr}
+use mathlib.Core.Path.{_≡_, refl}
+use lib.ListN.{length}
+use borrow.Author.Tests.{eq-eqb, ne-eqb, lt-ltb}
+use Rattle.laws.proofs.Branches.{and-off′}
+use Rattle.laws.proofs.Cases.{either}
+use Rattle.opening.specs.Opening.{clear, replyRead}
+use Rattle.settings.specs.Settings.{allowed}
+use Rattle.settings.specs.declared.Settings.{Settings}
+use Rattle.channel.specs.declared.Answer.{Answer as ChannelAnswer}
+use Rattle.channel.specs.declared.Answer.the-variants.{Good, Malformed, NotDue}
+use Rattle.open_end.specs.declared.answers.Answer.the-variants.{Channel as ByChannel, OtherId, OutOfRange, Refused}
+use Rattle.open_end.specs.declared.answers.Told.{Told}
+use Rattle.open_end.specs.declared.Frame.{Frame}
+use Rattle.open_end.specs.Answers.{said}
+use Rattle.open_end.proofs.Rules.{noChannel}
+use Rattle.connection.specs.declared.Connection.{Connection}
+use Rattle.connection.specs.Record.{closedRecord, leavingOn, listensOn, hears}
+use Rattle.connection.specs.Calls.{opening, onReply, arrived, buffered, elapsed, closedDue, requestDue, dueOf, sentBy, takenBy, closed}
+
+-- ---- literals
+
+-- the default settings: receive ID 0x300, unit 0x01, block size 15, T1 0x8A, T3 0x32, T_E 1,000, MNTC 10, repeats 5, T_WAIT 1,000, interval 10,000, tests 5
+abbrev pub standard : Settings
+standard =
+    record {
+      receive = 768;
+      unit = 1;
+      block = 15;
+      t1 = 138;
+      t3 = 50;
+      «t_e» = 1000;
+      mntc = 10;
+      mntb = 5;
+      «t_wait» = 1000;
+      «t_ct» = 10000;
+      mnct = 5;
+    }
+
+-- a closed record; with an A8 due or not, on a transmit ID
+abbrev pub atRest : (leaving : Bool) → (transmit : ℕ) → Connection
+atRest leaving transmit =
+    record {
+      phase = 0;
+      settings = standard;
+      attempt = record { due = false; asked = false; wait = 0; repeats = 0 };
+      leaving = leaving;
+      end = record { transmit = transmit; receive = 0; channel = noChannel };
+    }
+
+-- an answer of an open channel: its number, and that no message in sending is done
+abbrev pub plainly : ChannelAnswer → ℕ → Told
+plainly a n = record { answer = ByChannel a; said = record { number = n; done = false; opcode = 0 } }
+
+-- no frame: ID 0 and no bytes
+abbrev pub noFrame : Frame
+noFrame = record { id = 0; payload = record { len = 0; bytes = 0 ∷ 0 ∷ 0 ∷ 0 ∷ 0 ∷ 0 ∷ 0 ∷ 0 ∷ [] } }
+
+-- ---- closed records
+
+-- "A closed connection .. can be had without any input": with the default settings, no IDs, an empty channel, and nothing due
+pub closed-is : closedRecord ≡ atRest false 0
+closed-is = refl
+
+-- a closed connection with one A8 due has that transmit ID, and nothing else
+pub leaving-is : (transmit : ℕ) → leavingOn transmit ≡ atRest true transmit
+leaving-is transmit = refl
+
+module _ (c : Connection) (closed′ : c .phase ≡ 0) where
+  -- a closed record listens on no ID
+  pub hears-closed : (id : ℕ) → hears c id ≡ false
+  unfolding listensOn hears
+  hears-closed id = rw closed′
+
+  -- "any frame, send, take or close on a closed record" gives 4, and nothing changes
+  pub arrived-closed : (limit id : ℕ) (s : List ℕ) (room : ℕ) → arrived limit c id s room ≡ record { told = plainly NotDue 4; connection = c }
+  unfolding arrived
+  arrived-closed limit id s room = rw closed′
+
+  pub sentBy-closed : (limit n : ℕ) → sentBy limit c n ≡ record { told = plainly NotDue 4; connection = c }
+  unfolding sentBy
+  sentBy-closed limit n = rw closed′
+
+  pub takenBy-closed : (room : ℕ) → takenBy c room ≡ record { told = plainly NotDue 4; len = 0; connection = c }
+  unfolding takenBy
+  takenBy-closed room = rw closed′
+
+  pub closed-closed : closed c ≡ record { told = plainly NotDue 4; connection = c }
+  unfolding closed
+  closed-closed = rw closed′
+
+  -- no buffer is written
+  pub buffered-closed : (limit id : ℕ) (s b : List ℕ) → buffered limit c id s b ≡ b
+  unfolding buffered
+  buffered-closed limit id s b = rw closed′
+
+  -- "Time and due calls are good in every state: with nothing due the answer is 0 and no frame"
+  pub elapsed-closed : (n : ℕ) → elapsed c n ≡ record { told = plainly Good 0; connection = c }
+  unfolding elapsed
+  elapsed-closed n = rw closed′
+
+  pub dueOf-closed : (m : List ℕ) → c .leaving ≡ false → dueOf c m ≡ record { told = plainly Good 0; given = false; frame = noFrame; connection = c }
+  unfolding dueOf closedDue
+  dueOf-closed m l = rw (closed′, l)
+
+  -- the A8 goes out once, on the transmit ID: behind it nothing is due, and no ID is kept
+  pub dueOf-leaving : (m : List ℕ) → c .leaving ≡ true
+      → dueOf c m
+      ≡ record {
+        told = plainly Good 0;
+        given = true;
+        frame = record { id = c .end .transmit; payload = record { len = 1; bytes = 0xA8 ∷ 0 ∷ 0 ∷ 0 ∷ 0 ∷ 0 ∷ 0 ∷ 0 ∷ [] } };
+        connection = atRest false 0;
+      }
+  unfolding dueOf closedDue
+  dueOf-leaving m l = rw (closed′, l)
+
+-- ---- open
+
+-- what open leaves: the settings given, the C0 due, unasked, unrepeated, no wait running; an A8 that was due is discarded, and no ID is known
+pub opening-leaves : (c : Connection) (s : Settings) → c .phase ≡ 0 → allowed s ≡ true
+    → opening c s
+    ≡ record {
+      told = plainly Good 0;
+      connection =
+          record {
+            phase = 1;
+            settings = s;
+            attempt = record { due = true; asked = false; wait = 0; repeats = 0 };
+            leaving = false;
+            end = record { transmit = 0; receive = 0; channel = noChannel };
+          };
+    }
+unfolding opening
+opening-leaves c s p a = rw (p, a)
+
+-- "Open: 4 if not closed", whatever the settings
+pub opening-not-closed : (c : Connection) (s : Settings) → c .phase ≢ 0 → opening c s ≡ record { told = plainly NotDue 4; connection = c }
+unfolding opening
+opening-not-closed c s p = rw (ne-eqb (c .phase) 0 p)
+
+-- "then 10": nothing changes, and an A8 that was due stays due
+pub opening-out-of-range : (c : Connection) (s : Settings) → c .phase ≡ 0 → allowed s ≡ false
+    → opening c s ≡ record { told = record { answer = OutOfRange; said = record { number = 10; done = false; opcode = 0 } }; connection = c }
+unfolding opening
+opening-out-of-range c s p a = rw (p, a)
+
+-- ---- the ID asked by 3
+
+-- "The ID asked by 3 is 0x200 + unit until D0"
+pub arrived-other-id-1 : (limit : ℕ) (c : Connection) (id : ℕ) (s : List ℕ) (room : ℕ) → c .phase ≡ 1 → id ≢ 0x200 + c .settings .unit
+    → arrived limit c id s room ≡ record { told = record { answer = OtherId; said = record { number = 3; done = false; opcode = 0 } }; connection = c }
+unfolding arrived hears listensOn
+arrived-other-id-1 limit c id s room p other = rw (p, ne-eqb id (0x200 + c .settings .unit) other)
+
+-- "then our receive ID"
+pub arrived-other-id : (limit : ℕ) (c : Connection) (id : ℕ) (s : List ℕ) (room : ℕ) → 2 ≤ c .phase → id ≢ c .end .receive
+    → arrived limit c id s room ≡ record { told = record { answer = OtherId; said = record { number = 3; done = false; opcode = 0 } }; connection = c }
+unfolding arrived hears listensOn
+arrived-other-id limit c id s room p other =
+    rw (ne-eqb (c .phase) 0 (λ e. omega arith), ne-eqb (c .phase) 1 (λ e. omega arith), ne-eqb id (c .end .receive) other)
+
+-- ---- the C0 is unanswered
+
+module _ (c : Connection) (requesting′ : c .phase ≡ 1) where
+  -- "From CAN ID 0x200, 7 bytes: unit, C0, 00, 10, receive ID low, receive ID high, 01"; T_E starts, and it is asked
+  pub dueOf-request : (m : List ℕ) → c .attempt .due ≡ true
+      → dueOf c m
+      ≡ record {
+        told = plainly Good 0;
+        given = true;
+        frame =
+            record {
+              id = 0x200;
+              payload =
+                  record {
+                    len = 7;
+                    bytes = c .settings .unit ∷ 0xC0 ∷ 0x00 ∷ 0x10 ∷ c .settings .receive % 256 ∷ c .settings .receive / 256 % 8 ∷ 0x01 ∷ 0 ∷ [];
+                  };
+            };
+        connection =
+            record {
+              phase = 1;
+              settings = c .settings;
+              attempt = record { due = false; asked = true; wait = c .settings .«t_e»; repeats = c .attempt .repeats };
+              leaving = c .leaving;
+              end = c .end;
+            };
+      }
+  unfolding dueOf requestDue
+  dueOf-request m d = rw (requesting′, d)
+
+  pub dueOf-requested : (m : List ℕ) → c .attempt .due ≡ false → dueOf c m ≡ record { told = plainly Good 0; given = false; frame = noFrame; connection = c }
+  unfolding dueOf requestDue
+  dueOf-requested m d = rw (requesting′, d)
+
+  module _ (limit id room : ℕ) (heard : id ≡ 0x200 + c .settings .unit) where
+    -- the reply 00, D0, our receive ID, our transmit ID, 01: the A0 is due, unasked and unrepeated, and we listen on our receive ID
+    pub arrived-positive : (low high tlow thigh : ℕ) → high < 8 → low + 256 * high ≡ c .settings .receive → thigh < 8 → c .attempt .asked ≡ true
+        → arrived limit c id (0x00 ∷ 0xD0 ∷ low ∷ high ∷ tlow ∷ thigh ∷ 0x01 ∷ []) room
+        ≡ record {
+          told = plainly Good 0;
+          connection =
+              record {
+                phase = 2;
+                settings = c .settings;
+                attempt = record { due = true; asked = false; wait = 0; repeats = 0 };
+                leaving = false;
+                end = record { transmit = tlow + 256 * thigh; receive = c .settings .receive; channel = noChannel };
+              };
+        }
+    unfolding arrived hears listensOn replyRead onReply
+    arrived-positive low high tlow thigh h own t a =
+        rw (requesting′, eq-eqb _ _ heard, lt-ltb _ _ h, eq-eqb _ _ own, lt-ltb _ _ t, a)
+
+    -- "A reply before its request was ever handed over gives 4"
+    pub arrived-positive-early : (low high tlow thigh : ℕ) → high < 8 → low + 256 * high ≡ c .settings .receive → thigh < 8 → c .attempt .asked ≡ false
+        → arrived limit c id (0x00 ∷ 0xD0 ∷ low ∷ high ∷ tlow ∷ thigh ∷ 0x01 ∷ []) room ≡ record { told = plainly NotDue 4; connection = c }
+    unfolding arrived hears listensOn replyRead onReply
+    arrived-positive-early low high tlow thigh h own t a =
+        rw (requesting′, eq-eqb _ _ heard, lt-ltb _ _ h, eq-eqb _ _ own, lt-ltb _ _ t, a)
+
+    -- "D6 .., D7 .., D8 .. end the opening at once; of these only length, byte 0 and opcode are checked": 11 with that opcode, "record closed, nothing due"
+    pub arrived-refused : (opcode x y z w v : ℕ) → (opcode ≡ 0xD6) ⊎ ((opcode ≡ 0xD7) ⊎ (opcode ≡ 0xD8)) → c .attempt .asked ≡ true
+        → arrived limit c id (0x00 ∷ opcode ∷ x ∷ y ∷ z ∷ w ∷ v ∷ []) room
+        ≡ record { told = record { answer = Refused opcode; said = record { number = 11; done = false; opcode = opcode } }; connection = atRest false 0 }
+    unfolding arrived hears listensOn replyRead onReply
+    arrived-refused opcode x y z w v (inl e) a = rw (requesting′, eq-eqb _ _ heard, e, a)
+    arrived-refused opcode x y z w v (inr (inl e)) a = rw (requesting′, eq-eqb _ _ heard, e, a)
+    arrived-refused opcode x y z w v (inr (inr e)) a = rw (requesting′, eq-eqb _ _ heard, e, a)
+
+    pub arrived-refused-early : (opcode x y z w v : ℕ) → (opcode ≡ 0xD6) ⊎ ((opcode ≡ 0xD7) ⊎ (opcode ≡ 0xD8)) → c .attempt .asked ≡ false
+        → arrived limit c id (0x00 ∷ opcode ∷ x ∷ y ∷ z ∷ w ∷ v ∷ []) room ≡ record { told = plainly NotDue 4; connection = c }
+    unfolding arrived hears listensOn replyRead onReply
+    arrived-refused-early opcode x y z w v (inl e) a = rw (requesting′, eq-eqb _ _ heard, e, a)
+    arrived-refused-early opcode x y z w v (inr (inl e)) a = rw (requesting′, eq-eqb _ _ heard, e, a)
+    arrived-refused-early opcode x y z w v (inr (inr e)) a = rw (requesting′, eq-eqb _ _ heard, e, a)
+
+    -- "All else from that ID is badly formed": what has not seven bytes gives 1, asked or not
+    pub arrived-other-length : (s : List ℕ) → length s ≢ 7 → arrived limit c id s room ≡ record { told = plainly Malformed 1; connection = c }
+    unfolding arrived hears listensOn replyRead onReply
+    arrived-other-length s other = rw (requesting′, eq-eqb _ _ heard, ne-eqb (length s) 7 other)
+
+    -- and a positive reply that gives another receive ID back
+    pub arrived-other-back : (low high tlow thigh : ℕ) → low + 256 * high ≢ c .settings .receive
+        → arrived limit c id (0x00 ∷ 0xD0 ∷ low ∷ high ∷ tlow ∷ thigh ∷ 0x01 ∷ []) room ≡ record { told = plainly Malformed 1; connection = c }
+    unfolding arrived hears listensOn replyRead onReply
+    arrived-other-back low high tlow thigh other = rw (requesting′, eq-eqb _ _ heard, ne-eqb (low + 256 * high) (c .settings .receive) other, and-off′ (clear high) false refl)
+
+  -- no buffer is written
+  pub buffered-requesting : (limit id : ℕ) (s b : List ℕ) → buffered limit c id s b ≡ b
+  unfolding buffered
+  buffered-requesting limit id s b = either (hears c id) (λ h. rw (h, requesting′)) (λ h. rw (h, requesting′))
+
+  -- row 4, "send or take while opening"
+  pub sentBy-requesting : (limit n : ℕ) → sentBy limit c n ≡ record { told = plainly NotDue 4; connection = c }
+  unfolding sentBy
+  sentBy-requesting limit n = rw requesting′
+
+  pub takenBy-requesting : (room : ℕ) → takenBy c room ≡ record { told = plainly NotDue 4; len = 0; connection = c }
+  unfolding takenBy
+  takenBy-requesting room = rw requesting′
+
+  -- "leaves one A8 due if the transmit ID is known, else nothing": before the D0 it isn't
+  pub closed-requesting : closed c ≡ record { told = plainly Good 0; connection = atRest false 0 }
+  unfolding closed
+  closed-requesting = rw requesting′

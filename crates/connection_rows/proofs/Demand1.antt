@@ -1,0 +1,27 @@
+-- Demand 1 holds.
+use mathlib.Core.Path.{refl, ap}
+use lib.ListN.{length, take}
+use denote.Ref.{now}
+use Rattle.connection_rows.specs.Demand1.{Demand1Holds}
+use Rattle.connection_rows.proofs.Arrival.{arrive-told}
+use Rattle.connection_rows.proofs.Calls.{open-told, time-told, due-told, send-told, take-told, close-told}
+use Rattle.connection_rows.proofs.Rows.{arrive-row, arrive-keeps-buffer, arrive-done, arrive-opcode, open-row, time-row, due-row, send-row, take-row, close-row}
+
+pub demand1 : Demand1Holds
+demand1 =
+    record {
+      limit = refl;
+      arrive = λ limit c id s b. record { tells = arrive-told limit c id s b; exactly = arrive-row limit c id s b };
+      open′ = λ c s. record { tells = open-told c s; exactly = open-row c s };
+      time = λ c n. record { tells = time-told c n; exactly = time-row c n };
+      due = λ c m. record { tells = due-told c m; exactly = due-row c m };
+      send = λ limit c n. record { tells = send-told limit c n; exactly = send-row limit c n };
+      take′ = λ c room. record { tells = take-told c room; exactly = take-row c room };
+      close = λ c. record { tells = close-told c; exactly = close-row c };
+      shows = λ c b. ap (λ x. take (x .1 .0) (now b)) (take-told c (length (now b)));
+      lies = λ c b. refl;
+      looks = λ c b. let e = take-told c (length (now b)) in (ap (λ x. x .0) e, ap (λ x. x .1 .1) e);
+      keeps = arrive-keeps-buffer;
+      done = arrive-done;
+      opcode = arrive-opcode;
+    }

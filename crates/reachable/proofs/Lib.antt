@@ -1,0 +1,5 @@
+pub mod Sending
+pub mod Windows
+pub mod Channels
+pub mod Stages
+pub mod Reachable

@@ -1,0 +1,122 @@
+-- Demand 2, from the views of the readers, the bytes of the writers, and the two theorems on whole messages.
+use Prim.Native.Nat.{ℕ, _≤_, _<_}
+use native.Mathlib.Omega.{arith}
+use mathlib.Core.Bool.{Bool, true, false}
+use mathlib.Core.List.{List}
+use mathlib.Core.Path.{_≡_, refl, sym, ap, _∙_}
+use lib.ListN.{length, take, set}
+use Rattle.telegram.specs.Outgoing.{bytesOf}
+use Rattle.telegram.specs.Kinds.{ackOf, testOf, disconnectOf, setupOf, acceptOf}
+use Rattle.telegram.specs.Cutting.{cutting}
+use Rattle.telegram.specs.Forms.{Taken, formed, Form, as-ack, as-test, as-disconnect, as-setup, as-accept}
+use Rattle.telegram.specs.declared.kinds.Parameters.{Parameters}
+use Rattle.telegram.specs.declared.kinds.Sorted.{Sorted}
+use Rattle.telegram.specs.declared.kinds.Telegram.the-variants.{Ack, Test, Disconnect, Setup, Accept, Malformed}
+use Rattle.telegram.proofs.RoundTrip.{ack-sorted, test-sorted, disconnect-sorted, setup-sorted, accept-sorted}
+use Rattle.telegram.proofs.Forms.{sorts}
+use Rattle.telegram.proofs.Cut.{published, cutting-length}
+use Rattle.telegram.proofs.Rules.{writes, cut}
+use Rattle.opening.specs.Opening.{requestOf, replyOf}
+use Rattle.opening.specs.Forms.{RequestForm, as-open, ReplyForm, as-positive, as-refused}
+use Rattle.opening.specs.declared.Request.the-variants.{Open, Malformed as NoRequest}
+use Rattle.opening.specs.declared.Reply.the-variants.{Positive, Refused, Malformed as NoReply}
+use Rattle.opening.proofs.RoundTrip.{request-read, positive-read, refused-read}
+use Rattle.opening.proofs.Rules.{refusal-exactly, request-reads, reply-reads, writes as opening-writes}
+use Rattle.sender.specs.declared.Terms.{Terms}
+use Rattle.sender.specs.declared.Sender.{Sender}
+use Rattle.sender.specs.Sending.{fresh as freshSender}
+use Rattle.sender.specs.Writing.{Written, written}
+use Rattle.sender.proofs.Writing.{writes as sender-writes}
+use Rattle.receiver.specs.declared.Receipt.{Receipt}
+use Rattle.receiver.specs.Receiving.{fresh as freshReceiver, shown}
+use Rattle.reading.specs.Reading.{Reading, Read, reads}
+use Rattle.reading.specs.Demand2.{Sendable, Ready, Sent, Free, Demand2Holds}
+use Rattle.reading.proofs.Whole.{reads-cutting, read-shown}
+
+-- what a reader takes
+
+kind : {x y : Sorted} → x ≡ y → x .kind ≡ y .kind
+kind e = ap (λ (x : Sorted). x .kind) e
+
+ack-only : {s : List ℕ} {ready : Bool} {n : ℕ} → Taken (Form s) Malformed (Ack ready n) → (n < 16) × (s ≡ bytesOf (ackOf ready n))
+ack-only (formed (as-ack true n h e)) = (h, e ∙ sym (writes .ready n h))
+ack-only (formed (as-ack false n h e)) = (h, e ∙ sym (writes .notReady n h))
+
+test-only : {s : List ℕ} → Taken (Form s) Malformed Test → s ≡ bytesOf testOf
+test-only (formed (as-test e)) = e
+
+disconnect-only : {s : List ℕ} → Taken (Form s) Malformed Disconnect → s ≡ bytesOf disconnectOf
+disconnect-only (formed (as-disconnect e)) = e
+
+setup-only : {s : List ℕ} {p : Parameters} → Taken (Form s) Malformed (Setup p) → set (set s 3 0xFF) 5 0xFF ≡ bytesOf (setupOf p)
+setup-only (formed (as-setup p t2 t4 e)) = rw e
+
+accept-only : {s : List ℕ} {p : Parameters} → Taken (Form s) Malformed (Accept p) → set (set s 3 0xFF) 5 0xFF ≡ bytesOf (acceptOf p)
+accept-only (formed (as-accept p t2 t4 e)) = rw e
+
+request-only : {s : List ℕ} {unit receive : ℕ} → Taken (RequestForm s) NoRequest (Open unit receive) → (receive < 0x800) × (s ≡ bytesOf (requestOf unit receive))
+request-only (formed (as-open u r h e)) = (h, e ∙ sym (opening-writes .request u r h))
+
+positive-only : {s : List ℕ} {receive transmit : ℕ} → Taken (ReplyForm receive s) NoReply (Positive transmit)
+    → (transmit < 0x800) × (s ≡ bytesOf (replyOf 0xD0 receive transmit))
+positive-only {receive = r} (formed (as-positive t h k e)) = (k, e ∙ sym (opening-writes .reply 0xD0 r t h k))
+
+refused-only : {s : List ℕ} {receive opcode : ℕ} (transmit : ℕ) → Taken (ReplyForm receive s) NoReply (Refused opcode)
+    → (length s ≡ length (bytesOf (replyOf opcode receive transmit))) × (take 2 s ≡ take 2 (bytesOf (replyOf opcode receive transmit)))
+refused-only t (formed (as-refused o a b c d f h k e)) = (rw e, rw e)
+
+-- whole messages
+
+module _ (limit : ℕ) (two : limit < 65536) where
+  sent : (t : Terms) (s : Sender) (m : List ℕ) → Sendable limit m → Ready t s → Sent t s m (written limit t s m)
+  sent t s m f r =
+      let e = sender-writes limit t s m (record { free = r .length; some = f .some; within = f .within }) (r .hold) (r .gap) (r .number) (r .some) (omega arith) in
+      record { frames = ap (λ (w : Written). w .frames) e; note = ap (λ (w : Written). w .note) e; sender = rw (e, cutting-length m (t .block) (s .oldest)) }
+
+  read-back : (m : List ℕ) (block number : ℕ) (h : Reading) → Sendable limit m → Free m number h → Read m number (h .buffer) (reads limit h (cutting m block number))
+  read-back m block number h f r = reads-cutting limit m number (h .buffer) (f .some) (f .within) (omega arith) (r .roomy) block (r .small) h (r .idle) refl
+
+  arrives : (t : Terms) (s : Sender) (m : List ℕ) (h : Reading) → Sendable limit m → Ready t s → Free m (s .oldest) h
+      → shown (reads limit h (written limit t s m .frames) .receiver) (reads limit h (written limit t s m .frames) .buffer) ≡ m
+  arrives t s m h f r a =
+      rw (sent t s m f r .frames) (read-shown m (s .oldest) (h .buffer) (reads limit h (cutting m (t .block) (s .oldest))) (read-back m (t .block) (s .oldest) h f a))
+
+pub demand2 : Demand2Holds
+demand2 limit two =
+    record {
+      sorts = sorts;
+      requests = request-reads;
+      replies = λ r s b. reply-reads s b r;
+      writes = writes;
+      opens = opening-writes;
+      ackBack = λ ready n h. kind (ack-sorted ready n h);
+      testBack = kind test-sorted;
+      disconnectBack = kind disconnect-sorted;
+      setupBack = λ p. kind (setup-sorted p);
+      acceptBack = λ p. kind (accept-sorted p);
+      requestBack = request-read;
+      positiveBack = positive-read;
+      refusedBack = λ o r t own h k. refused-read o r t own (refusal-exactly o .1 (h, k));
+      ackOnly = λ s ready n e. ack-only (sorts s (Ack ready n) .0 e);
+      testOnly = λ s e. test-only (sorts s Test .0 e);
+      disconnectOnly = λ s e. disconnect-only (sorts s Disconnect .0 e);
+      setupOnly = λ s p e. setup-only (sorts s (Setup p) .0 e);
+      acceptOnly = λ s p e. accept-only (sorts s (Accept p) .0 e);
+      requestOnly = λ s b u r e. request-only (request-reads s b (Open u r) .0 e);
+      positiveOnly = λ s b r t e. positive-only (reply-reads s b r (Positive t) .0 e);
+      refusedOnly = λ s b r o t e. refused-only t (reply-reads s b r (Refused o) .0 e);
+      published = λ m block first f. published limit (omega arith) m block first (f .some) (f .within);
+      cut = λ m block first f. let h = f .within in cut m block first (omega arith);
+      sent = sent limit two;
+      readBack = read-back limit two;
+      arrives = arrives limit two;
+    }
+
+-- fresh ends meet what it assumes: every message of 1 to 1,024 bytes arrives, at every block size and into every buffer of 1,024
+pub fresh-arrives : (t : Terms) (m b : List ℕ) (n : Receipt) → 1 ≤ t .block → t .block ≤ 15 → Sendable 1024 m → 1024 ≤ length b
+    → let h = reads 1024 (record { receiver = freshReceiver; buffer = b; note = n }) (written 1024 t freshSender m .frames) in shown (h .receiver) (h .buffer) ≡ m
+fresh-arrives t m b n low high f roomy =
+    let within = f .within in
+    demand2 1024 (omega arith) .arrives t freshSender m (record { receiver = freshReceiver; buffer = b; note = n }) f
+    (record { length = refl; hold = refl; gap = refl; number = omega arith; some = low; few = high })
+    (record { idle = record { expected = refl; discarding = refl; begun = refl; complete = refl }; small = omega arith; roomy = omega arith })

@@ -1,0 +1,115 @@
+-- Demand 2: telegrams and opening frames in bytes, both ways; the cutting; and a message sent and read back.
+use Prim.Native.Nat.{ℕ, _+_, _%_, _≤_, _<_}
+use mathlib.Core.Bool.{Bool}
+use mathlib.Core.Logic.{_↔_}
+use mathlib.Core.Path.{_≡_}
+use mathlib.Core.List.{List}
+use lib.ListN.{length, take, set}
+use Rattle.telegram.specs.Outgoing.{bytesOf}
+use Rattle.telegram.specs.Kinds.{sorted, ackOf, testOf, disconnectOf, setupOf, acceptOf}
+use Rattle.telegram.specs.Cutting.{cutting}
+use Rattle.telegram.specs.Published.{Published}
+use Rattle.telegram.specs.Forms.{Bytes, Taken, Form, Writes, CutInBytes}
+use Rattle.telegram.specs.declared.kinds.Parameters.{Parameters}
+use Rattle.telegram.specs.declared.kinds.Telegram.{Telegram}
+use Rattle.telegram.specs.declared.kinds.Telegram.the-variants.{Ack, Test, Disconnect, Setup, Accept, Malformed}
+use Rattle.opening.specs.Opening.{requestOf, replyOf, requestRead, replyRead}
+use Rattle.opening.specs.Forms.{RequestForm, ReplyForm, OpeningWrites}
+use Rattle.opening.specs.declared.Request.{Request}
+use Rattle.opening.specs.declared.Request.the-variants.{Open, Malformed as NoRequest}
+use Rattle.opening.specs.declared.Reply.{Reply}
+use Rattle.opening.specs.declared.Reply.the-variants.{Positive, Refused, Malformed as NoReply}
+use Rattle.sender.specs.declared.Terms.{Terms}
+use Rattle.sender.specs.declared.Sender.{Sender}
+use Rattle.sender.specs.declared.Hearing.the-variants.{Done}
+use Rattle.sender.specs.Writing.{Written, written}
+use Rattle.receiver.specs.Receiving.{shown}
+use Rattle.reading.specs.Reading.{Reading, Idle, Read, reads}
+
+-- a message of 1 to limit bytes
+pub record Sendable (limit : ℕ) (m : List ℕ) : Type 0 where
+  pub some : 0 < length m
+  pub within : length m ≤ limit
+
+-- a sender that is free to begin, at a block size of 1 to 15
+pub record Ready (t : Terms) (s : Sender) : Type 0 where
+  pub length : s .length ≡ 0
+  pub hold : s .hold ≡ 0
+  pub gap : s .gap ≡ 0
+  pub number : s .oldest < 16
+  pub some : 1 ≤ t .block
+  pub few : t .block ≤ 15
+
+-- a message went out as its cutting and was then done; the sender is at rest again, and its number has counted on by the frames
+pub record Sent (t : Terms) (s : Sender) (m : List ℕ) (w : Written) : Type 0 where
+  pub frames : w .frames ≡ cutting m (t .block) (s .oldest)
+  pub note : w .note ≡ Done
+  pub sender : w .sender ≡ record { length = 0; acked = 0; high = 0; next = 0; oldest = (s .oldest + length (w .frames)) % 16; count = 0; wait = 0; hold = 0; gap = 0 }
+
+-- a receiver with nothing begun and none waiting, and room for the message
+pub record Free (m : List ℕ) (number : ℕ) (h : Reading) : Type 0 where
+  pub idle : Idle number (h .receiver)
+  pub small : number < 16
+  pub roomy : length m ≤ length (h .buffer)
+
+pub record Demand2 (limit : ℕ) : Type 0 where
+  -- a telegram is of a kind exactly if it has the bytes of that kind, data by its first byte and length, a break by its one byte; all else is badly formed
+  pub sorts : (s : List ℕ) (t : Telegram) → sorted s .kind ≡ t ↔ Taken (Form s) Malformed t
+  -- so it is with the C0 request
+  pub requests : (s : List ℕ) → Bytes s → (q : Request) → requestRead s ≡ q ↔ Taken (RequestForm s) NoRequest q
+  -- and with its replies, read by the end that asked
+  pub replies : (receive : ℕ) (s : List ℕ) → Bytes s → (q : Reply) → replyRead s receive ≡ q ↔ Taken (ReplyForm receive s) NoReply q
+  -- the bytes of each telegram that is written
+  pub writes : Writes
+  -- the bytes of C0, D0 and D6 to D8
+  pub opens : OpeningWrites
+  -- what is written reads back as it was: an Ack
+  pub ackBack : (ready : Bool) (n : ℕ) → n < 16 → sorted (bytesOf (ackOf ready n)) .kind ≡ Ack ready n
+  -- a test
+  pub testBack : sorted (bytesOf testOf) .kind ≡ Test
+  -- a disconnect
+  pub disconnectBack : sorted (bytesOf disconnectOf) .kind ≡ Disconnect
+  -- an A0
+  pub setupBack : (p : Parameters) → sorted (bytesOf (setupOf p)) .kind ≡ Setup p
+  -- an A1
+  pub acceptBack : (p : Parameters) → sorted (bytesOf (acceptOf p)) .kind ≡ Accept p
+  -- a C0
+  pub requestBack : (unit receive : ℕ) → receive < 0x800 → requestRead (bytesOf (requestOf unit receive)) ≡ Open unit receive
+  -- a D0
+  pub positiveBack : (receive transmit : ℕ) → receive < 0x800 → transmit < 0x800 → replyRead (bytesOf (replyOf 0xD0 receive transmit)) receive ≡ Positive transmit
+  -- a D6, D7 or D8, whatever IDs stand in it
+  pub refusedBack : (opcode receive transmit own : ℕ) → 0xD6 ≤ opcode → opcode ≤ 0xD8 → replyRead (bytesOf (replyOf opcode receive transmit)) own ≡ Refused opcode
+  -- what a reader takes is what a writer writes: an Ack
+  pub ackOnly : (s : List ℕ) (ready : Bool) (n : ℕ) → sorted s .kind ≡ Ack ready n → (n < 16) × (s ≡ bytesOf (ackOf ready n))
+  -- a test
+  pub testOnly : (s : List ℕ) → sorted s .kind ≡ Test → s ≡ bytesOf testOf
+  -- a disconnect
+  pub disconnectOnly : (s : List ℕ) → sorted s .kind ≡ Disconnect → s ≡ bytesOf disconnectOf
+  -- an A0, once its T2 and T4 are FF
+  pub setupOnly : (s : List ℕ) (p : Parameters) → sorted s .kind ≡ Setup p → set (set s 3 0xFF) 5 0xFF ≡ bytesOf (setupOf p)
+  -- an A1 likewise
+  pub acceptOnly : (s : List ℕ) (p : Parameters) → sorted s .kind ≡ Accept p → set (set s 3 0xFF) 5 0xFF ≡ bytesOf (acceptOf p)
+  -- a C0
+  pub requestOnly : (s : List ℕ) → Bytes s → (unit receive : ℕ) → requestRead s ≡ Open unit receive → (receive < 0x800) × (s ≡ bytesOf (requestOf unit receive))
+  -- a D0 with our own receive ID
+  pub positiveOnly : (s : List ℕ) → Bytes s → (receive transmit : ℕ) → replyRead s receive ≡ Positive transmit → (transmit < 0x800) × (s ≡ bytesOf (replyOf 0xD0 receive transmit))
+  -- a D6, D7 or D8, as far as length, byte 0 and opcode
+  pub refusedOnly :
+      (s : List ℕ) → Bytes s → (receive opcode transmit : ℕ) → replyRead s receive ≡ Refused opcode →
+      (length s ≡ length (bytesOf (replyOf opcode receive transmit))) × (take 2 s ≡ take 2 (bytesOf (replyOf opcode receive transmit)))
+  -- a message is cut as published
+  pub published : (m : List ℕ) (block first : ℕ) → Sendable limit m → Published m block first
+  -- its frames, byte for byte
+  pub cut : (m : List ℕ) (block first : ℕ) → Sendable limit m → CutInBytes m block first
+  -- a message sent is handed over as its cutting
+  pub sent : (t : Terms) (s : Sender) (m : List ℕ) → Sendable limit m → Ready t s → Sent t s m (written limit t s m)
+  -- the cutting, read back by any receiver that is free for it, is the message
+  pub readBack : (m : List ℕ) (block number : ℕ) (h : Reading) → Sendable limit m → Free m number h → Read m number (h .buffer) (reads limit h (cutting m block number))
+  -- so what a message's sending puts out shows the message, byte for byte, where it is read
+  pub arrives :
+      (t : Terms) (s : Sender) (m : List ℕ) (h : Reading) → Sendable limit m → Ready t s → Free m (s .oldest) h →
+      shown (reads limit h (written limit t s m .frames) .receiver) (reads limit h (written limit t s m .frames) .buffer) ≡ m
+
+-- for every limit that two length bytes can tell, 1,024 among them
+abbrev pub Demand2Holds : Type 0
+Demand2Holds = (limit : ℕ) → limit < 65536 → Demand2 limit

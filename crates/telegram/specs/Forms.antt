@@ -1,0 +1,71 @@
+-- 01, "Telegrams on an open connection" and "Cutting", in bytes. No promise cites these; proofs/Forms.antt and proofs/Rules.antt prove them of what the promises cite.
+use Prim.Native.Nat.{ℕ, _+_, _*_, _/_, _%_, _≤_, _<_}
+use mathlib.Core.Bool.{Bool, true, false}
+use mathlib.Core.List.{List, [], _∷_}
+use mathlib.Core.Logic.{_↔_, _⊎_}
+use mathlib.Core.Path.{_≡_}
+use lib.ListN.{length, take, drop, getD}
+use Rattle.laws.specs.If.{if_then_else_}
+use Rattle.telegram.specs.Outgoing.{bytesOf}
+use Rattle.telegram.specs.Kinds.{ackOf, testOf, disconnectOf, setupOf, acceptOf}
+use Rattle.telegram.specs.Cutting.{cutting}
+use Rattle.telegram.specs.declared.kinds.Parameters.{Parameters}
+use Rattle.telegram.specs.declared.kinds.Telegram.{Telegram}
+use Rattle.telegram.specs.declared.kinds.Telegram.the-variants.{Data, Ack, Test, Break, Disconnect, Setup, Accept}
+
+-- every element is a byte; past the end stands 0
+abbrev pub Bytes : List ℕ → Type 0
+Bytes s = (i : ℕ) → getD s i 0 < 256
+
+-- what a reader gives for bytes, by F, the forms that they have: that whose form they have, and badly formed exactly if they have none
+pub data Taken {A : Type 0} (F : A → Type 0) (malformed : A) : A → Type 0 where
+  formed : {a : A} → F a → Taken F malformed a
+  formless : ((a : A) → F a → ⊥) → Taken F malformed malformed
+
+-- the first byte of data: 00, AR, EOM, number (4 bits); AR 0 asks for an Ack
+abbrev pub firstByte : (asks last : Bool) → (number : ℕ) → ℕ
+firstByte asks last number = (if asks then 0x00 else 0x20) + (if last then 0x10 else 0x00) + number
+
+-- the bytes of each kind
+pub data Form (s : List ℕ) : Telegram → Type 0 where
+  -- "Data, 2 to 8 bytes: first byte 00, AR, EOM, number (4 bits)"
+  as-data : (asks last : Bool) (n : ℕ) (p : List ℕ) → n < 16 → 1 ≤ length p → length p ≤ 7 → s ≡ firstByte asks last n ∷ p → Form s (Data asks last n)
+  -- "Ack, 1 byte: 1 0 RS 1 number; RS 1 is ready"
+  as-ack : (ready : Bool) (n : ℕ) → n < 16 → s ≡ ((if ready then 0xB0 else 0x90) + n) ∷ [] → Form s (Ack ready n)
+  -- "One byte each: A3 test, A4 break, A8 disconnect"
+  as-test : s ≡ 0xA3 ∷ [] → Form s Test
+  as-break : s ≡ 0xA4 ∷ [] → Form s Break
+  as-disconnect : s ≡ 0xA8 ∷ [] → Form s Disconnect
+  -- "Six bytes: A0, A1"; "T2 and T4 are read as anything"
+  as-setup : (p : Parameters) (t2 t4 : ℕ) → s ≡ 0xA0 ∷ p .block ∷ p .t1 ∷ t2 ∷ p .t3 ∷ t4 ∷ [] → Form s (Setup p)
+  as-accept : (p : Parameters) (t2 t4 : ℕ) → s ≡ 0xA1 ∷ p .block ∷ p .t1 ∷ t2 ∷ p .t3 ∷ t4 ∷ [] → Form s (Accept p)
+
+-- the bytes that each writer puts on the bus
+pub record Writes : Type 0 where
+  -- "1 0 RS 1 number; RS 1 is ready"
+  pub ready : (n : ℕ) → n < 16 → bytesOf (ackOf true n) ≡ (0xB0 + n) ∷ []
+  pub notReady : (n : ℕ) → n < 16 → bytesOf (ackOf false n) ≡ (0x90 + n) ∷ []
+  -- "A3 test", "A8 disconnect"
+  pub test : bytesOf testOf ≡ 0xA3 ∷ []
+  pub disconnect : bytesOf disconnectOf ≡ 0xA8 ∷ []
+  -- "A0, block size, T1, FF, T3, FF", and "A1 with the same fields"
+  pub setup : (p : Parameters) → bytesOf (setupOf p) ≡ 0xA0 ∷ p .block ∷ p .t1 ∷ 0xFF ∷ p .t3 ∷ 0xFF ∷ []
+  pub accept : (p : Parameters) → bytesOf (acceptOf p) ≡ 0xA1 ∷ p .block ∷ p .t1 ∷ 0xFF ∷ p .t3 ∷ 0xFF ∷ []
+
+-- frame j (from 0) of the k frames of a message
+pub record FrameInBytes (m : List ℕ) (block first k j : ℕ) (f : List ℕ) : Type 0 where
+  pub asks : Bool
+  pub last : Bool
+  -- "Two length bytes, high first, then the message, cut in sevens"; "Frame number counts on modulo 16"
+  pub bytes : f ≡ firstByte asks last ((first + j) % 16) ∷ take 7 (drop (7 * j) (length m / 256 ∷ length m % 256 ∷ m))
+  -- "EOM on the last"
+  pub ends : last ≡ true ↔ j + 1 ≡ k
+  -- "AR on every frame whose place in the message (from 1) is a multiple of the block size, and on the last"
+  pub asked : asks ≡ true ↔ ((q : ℕ) × (j + 1 ≡ q * block)) ⊎ (j + 1 ≡ k)
+
+-- a message, cut
+pub record CutInBytes (m : List ℕ) (block first : ℕ) : Type 0 where
+  -- "the last frame may be shorter": as many frames as it takes, and no more
+  pub enough : length m + 2 ≤ 7 * length (cutting m block first)
+  pub needed : 7 * length (cutting m block first) < length m + 2 + 7
+  pub frames : (j : ℕ) → j < length (cutting m block first) → FrameInBytes m block first (length (cutting m block first)) j (getD (cutting m block first) j [])
