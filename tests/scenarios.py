@@ -709,9 +709,25 @@ def every_block(play):
         play.buffer()
 
 
+def every_time_code(play):
+    """Every code as the unit's T3 and, where it may be, as our own T1: one tenth less, and then the last one."""
+    for code in range(256):
+        t1, t3 = model.tenths(code) or 1000, model.tenths(code)
+        play.say("close")
+        play.opening(Settings(t1=code if code % 64 else 0x8A, interval=0), t3=code)
+        play.send((6,))
+        play.due()
+        for part in (t3 - 1, 1) if t3 else (0,):
+            play.wait(part)
+            play.due()
+        for part in (t1 - 1, 1):
+            play.wait(part)
+            play.due()
+
+
 SWEEPS = (limits, every_reply, lambda play: every_first_byte(play, "parameters"),
           lambda play: every_first_byte(play, "open"), every_ack, every_first_frame, every_later_frame, every_length,
-          every_block)
+          every_block, every_time_code)
 
 
 # At random
