@@ -315,7 +315,7 @@ struct settings {
     uint8_t tests;
 };
 
-static const struct settings defaults = {0x300, 0x01, 15, 0x8A, 0x32, 1000, 10, 5, 1000, 10000, 5};
+static const struct settings defaults = {0x300, 0x01, 8, 0x8A, 0x32, 1000, 10, 5, 1000, 10000, 5};
 
 enum phase { CLOSED, REQUESTING, AGREEING, OPEN };
 
@@ -617,8 +617,9 @@ static enum answer connection_take(struct connection *c, size_t room, size_t *le
 
 /* ---- the work ---- */
 
-/* The time between two data frames, the turns of a run, and the runs that a message may take. */
-enum { GAP = 50, TURNS = 16, RUNS = 32 };
+/* The block size of both ends, whatever the default is; the time between two data frames; the turns of a run; the frames of
+ * the longest message; and the runs that a message may take. */
+enum { BLOCK = 15, GAP = 50, TURNS = BLOCK + 1, FRAMES = (LONGEST + 8) / PIECE, RUNS = 2 * (FRAMES / BLOCK + 1) };
 
 struct tally {
     uint64_t messages, frames, bytes, sum, checksum;
@@ -637,12 +638,14 @@ static inline void count(struct tally *t, const struct payload *p)
     t->checksum = checksum;
 }
 
-/* An end with the default settings but for its receive ID, as the A1 of a peer with the same settings leaves it. */
+/* An end with the default settings but for its receive ID and its block size, as the A1 of a peer with the same settings
+ * leaves it. */
 static void make_end(struct connection *c, uint16_t receive, uint16_t transmit)
 {
-    struct fields peer = {defaults.block, defaults.t1, defaults.t3};
+    struct fields peer = {BLOCK, defaults.t1, defaults.t3};
     make_closed(c);
     c->settings.receive = receive;
+    c->settings.block = BLOCK;
     c->transmit = transmit;
     make_open(c, &peer);
 }

@@ -22,7 +22,7 @@ def tenths(code):
 class Settings(NamedTuple):
     rx: int = 0x300
     unit: int = 0x01
-    block: int = 15
+    block: int = 8
     t1: int = 0x8A
     t3: int = 0x32
     te: int = 1000

@@ -121,7 +121,7 @@ class Play:
         chosen = Settings(
             rx=pick((0x300, 0x300, 0x300, 0, 0x7FF, 0x200, 0x201, some(0x800))),
             unit=pick((1, 1, 0, 0xEF, some(0xF0))),
-            block=pick((15, 15, 1, 2, 3, some(1, 16), some(1, 16))),
+            block=pick((8, 15, 1, 2, 3, some(1, 16), some(1, 16))),
             t1=t1 if t1 & 0x3F else 0x8A,
             t3=pick((0x32, 0, 0xFF, some(256))),
             te=pick((1000, 1, 10000, some(1, 10001))),
@@ -628,7 +628,7 @@ def every_ack(play):
         for first in (*range(0x90, 0xA0), *range(0xB0, 0xC0)):
             if play.c.phase != "open" or play.c.sender.unacknowledged() != count or play.c.sender.hold:
                 play.say("close")
-                play.opening(Settings(interval=0, repeats=1))
+                play.opening(Settings(block=15, interval=0, repeats=1))
                 play.send((208,))
                 for _ in range(count):
                     play.due()
@@ -709,6 +709,18 @@ def every_block(play):
         play.buffer()
 
 
+def every_default(play):
+    """The bare open with every block size that a unit can name."""
+    for block in range(1, 16):
+        play.say("close")
+        play.say("open")
+        play.due()
+        play.heard(*play.d0(0x740))
+        play.due()
+        play.a1(block, 0)
+        whole(play, 208)
+
+
 def every_time_code(play):
     """Every code as the unit's T3 and, where it may be, as our own T1: one tenth less, and then the last one."""
     for code in range(256):
@@ -727,7 +739,7 @@ def every_time_code(play):
 
 SWEEPS = (limits, every_reply, lambda play: every_first_byte(play, "parameters"),
           lambda play: every_first_byte(play, "open"), every_ack, every_first_frame, every_later_frame, every_length,
-          every_block, every_time_code)
+          every_block, every_default, every_time_code)
 
 
 # At random

@@ -25,13 +25,13 @@ use Rattle.connection.specs.Calls.{opening, onReply, arrived, buffered, 
 
 -- ---- literals
 
--- the default settings: receive ID 0x300, unit 0x01, block size 15, T1 0x8A, T3 0x32, T_E 1,000, MNTC 10, repeats 5, T_WAIT 1,000, interval 10,000, tests 5
+-- the default settings: receive ID 0x300, unit 0x01, block size 8, T1 0x8A, T3 0x32, T_E 1,000, MNTC 10, repeats 5, T_WAIT 1,000, interval 10,000, tests 5
 abbrev pub standard : Settings
 standard =
     record {
       receive = 768;
       unit = 1;
-      block = 15;
+      block = 8;
       t1 = 138;
       t3 = 50;
       «t_e» = 1000;

@@ -10,7 +10,7 @@ use lib.Seq.{drop-drop}
 use lib.Dec.{ltb, leb, eqb}
 use borrow.Author.Tests.{ltb-true, eqb-true}
 use Rattle.laws.specs.If.{if_then_else_}
-use Rattle.laws.proofs.Cases.{either, and-first, and-second}
+use Rattle.laws.proofs.Cases.{either, and-first, and-second, smaller-min}
 use Rattle.telegram.specs.Time.{tenthsOf}
 use Rattle.telegram.specs.Outgoing.{payloadOf}
 use Rattle.telegram.specs.Kinds.{top, bit4, bit5, badBlock}
@@ -28,7 +28,7 @@ use Rattle.connection.specs.declared.Connection.{Connection}
 use Rattle.connection.specs.Record.{listensOn, hears}
 use Rattle.connection_rows.specs.Records.{isClosed, isRequesting, unit, tenths, smaller}
 use Rattle.connection_rows.specs.Rows.{isData, asksAck, isLast, numberIn, isAck, isReady, isRefusal, otherId, ahead, carriedBy, inRange, testDue, padded, dataDue, isEnd, withAR, firstByte, dataOf, dataOut, writtenAt}
-use Rattle.connection_rows.proofs.Words.{below-40, below-20, upper-half, ack-byte, ready-byte, refusal-byte, ahead-by, number-by, acked-to, carried, left-behind, multiple, some-left, smaller-min, larger-max, not-above, below-next, below-not, neither, unit-pow, zeros-behind}
+use Rattle.connection_rows.proofs.Words.{below-40, below-20, upper-half, ack-byte, ready-byte, refusal-byte, ahead-by, number-by, acked-to, carried, left-behind, multiple, some-left, larger-max, not-above, below-next, below-not, neither, unit-pow, zeros-behind}
 
 -- ---- bytes
 

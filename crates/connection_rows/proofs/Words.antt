@@ -1,5 +1,5 @@
 -- Numbers and tests of specs/Rows.antt in its own words, and in those of the definitions.
-use Prim.Native.Nat.{ℕ, zero, suc, _+_, _-_, _*_, _/_, _%_, _^_, min, max, _≤_, _<_}
+use Prim.Native.Nat.{ℕ, zero, suc, _+_, _-_, _*_, _/_, _%_, _^_, max, _≤_, _<_}
 use native.Mathlib.Nat.{pow-succ', div-add-mod}
 use native.Mathlib.Omega.{arith}
 use mathlib.Core.Bool.{Bool, true, false, not, _&&_, _||_}
@@ -130,10 +130,6 @@ multiple p b = let d = div-add-mod p b in
 -- a number that is not 0
 pub some-left : (n : ℕ) → ltb 0 n ≡ not (eqb n 0)
 some-left n = either (eqb n 0) (λ e. rw (eqb-true n 0 e)) (λ e. let z = eqb-false n 0 e in rw (e, lt-ltb 0 n (omega arith)))
-
--- the smaller of two
-pub smaller-min : (m n : ℕ) → (if ltb n m then n else m) ≡ min m n
-smaller-min m n = by-lt (λ x. x ≡ min m n) n m (λ l. omega arith) (λ l. omega arith)
 
 -- the larger of two
 pub larger-max : (k h : ℕ) → (if ltb k h then h else k + 1) ≡ max h (k + 1)

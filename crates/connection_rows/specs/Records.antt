@@ -53,10 +53,10 @@ noChannel =
     (let terms : Terms = record { block = 0; t1 = 0; t3 = 0; repeats = 0; «t_wait» = 0 } in
     freshChannel (record { terms = terms; interval = 0; allowed = 0; own = record { block = 0; t1 = 0; t3 = 0 } }))
 
--- the settings' defaults, the names being the standard's: "own receive ID .. (0x300); unit address .. (0x01); .. unanswered tests allowed .. (5, house)"
+-- the settings' defaults, the names being the standard's: "own receive ID .. (0x300); unit address .. (0x01); .. unanswered tests allowed .. (5, house)"; "Change the default block size from 15 to 8" (02, request 3)
 abbrev pub defaults : Settings
 defaults =
-    record { receive = 0x300; unit = 0x01; block = 15; t1 = 0x8A; t3 = 0x32; «t_e» = 1000; mntc = 10; mntb = 5; «t_wait» = 1000; «t_ct» = 10000; mnct = 5 }
+    record { receive = 0x300; unit = 0x01; block = 8; t1 = 0x8A; t3 = 0x32; «t_e» = 1000; mntc = 10; mntb = 5; «t_wait» = 1000; «t_ct» = 10000; mnct = 5 }
 
 -- closed, with one A8 due on a transmit ID or nothing due; the settings are the defaults
 abbrev pub closedWith : (leaving : Bool) → (transmit : ℕ) → Connection

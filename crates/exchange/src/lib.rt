@@ -1,1 +1,2 @@
-// The exchange of source 004, run on the definitions of the record's calls: what comes out is what document 01 prints. No code.
+// Lists of calls on their definitions: the exchange of source 004, which comes to what document 01 prints, and a default opening
+// (document 02, request 3). No code.

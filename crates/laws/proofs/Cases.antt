@@ -4,10 +4,12 @@
 --     either                              what holds whichever way a test comes out
 --     each                                a function of a branch, outcome by outcome
 --     same                                both outcomes are one
+--     smaller-min                         the smaller of two numbers, by a test
 --     both                                both parts of a test that passed
 --     and-first, and-second               each of them, as `search` takes them
 --     or-first, or-second                 each part of a test that failed
-use Prim.Native.Nat.{ℕ, _<_, _≤_}
+use Prim.Native.Nat.{ℕ, min, _<_, _≤_}
+use native.Mathlib.Omega.{arith}
 use mathlib.Core.Bool.{Bool, true, false, cond, not, _&&_, _||_, true≢false, false≢true}
 use mathlib.Core.Path.{_≡_, refl}
 use lib.Dec.{ltb, leb, eqb}
@@ -44,6 +46,9 @@ each f false p q = q
 pub same {ℓ} : {A : Type ℓ} (t : Bool) (x : A) → cond t x x ≡ x
 same true x = refl
 same false x = refl
+
+pub smaller-min : (m n : ℕ) → cond (ltb n m) n m ≡ min m n
+smaller-min m n = by-lt (λ x. x ≡ min m n) n m (λ l. omega arith) (λ l. omega arith)
 
 pub both : (s t : Bool) → (s && t) ≡ true → (s ≡ true) × (t ≡ true)
 both true t e = (refl, e)

@@ -31,13 +31,19 @@ const OTHER: u16 = 0x740;
 // The time between two data frames, in tenths of a millisecond: what the default T3 asks for.
 const GAP: u64 = 50;
 
-// The turns of a run: one for each frame of a block, and one that finds nothing due.
-const TURNS: usize = 16;
+// The block size of both ends, whatever the default is: the counts printed hang on it.
+const BLOCK: u8 = 15;
 
-// The runs that a message may take. The longest has 10 blocks and takes one there and one back for each.
-const RUNS: usize = 32;
+// The turns of a run: one for each frame of a block, and one that finds nothing due.
+const TURNS: usize = BLOCK as usize + 1;
 
 const LONGEST: usize = 1024;
+
+// The frames of the longest message: it and its two length bytes in sevens, rounded up.
+const FRAMES: usize = (LONGEST + 8) / 7;
+
+// The runs that a message may take: at least one there and one back for each block of the longest.
+const RUNS: usize = 2 * (FRAMES / BLOCK as usize + 1);
 
 const MOST_ROUNDS: u64 = 1000000;
 
@@ -246,12 +252,14 @@ fn fresh() -> Ends {
     }
 }
 
-// An end with the default settings but for its receive ID, as the A1 of a peer with the same settings leaves it.
+// An end with the default settings but for its receive ID and its block size, as the A1 of a peer with the same settings
+// leaves it.
 fn opened(receive: u16, transmit: u16) -> Connection
     ensures { λ r. ⌜ r ≡ opened (agreeing (requesting (r .settings)) transmit) (ownFields (r .settings)) ⌝ }
 {
     let mut settings = Settings::DEFAULT;
     settings.receive = receive;
+    settings.block = BLOCK;
     Connection {
         phase: OPEN,
         leaving: false,

@@ -13,12 +13,12 @@ use Rattle.telegram.proofs.Rules.{block-passes}
 use Rattle.settings.specs.Settings.{defaults, allowed}
 use Rattle.settings.specs.declared.Settings.{Settings}
 
--- "Settings, with default: own receive ID .. (0x300); unit address .. (0x01); block size .. (15); T1 code .. (0x8A); T3 code (0x32); T_E .. (1,000); MNTC .. (10); block repeats .. (5, house); T_WAIT .. (1,000, house); test interval .. (10,000, house); unanswered tests allowed .. (5, house)"
+-- "Settings, with default: own receive ID .. (0x300); unit address .. (0x01); block size .. [8, by request 3 of 02]; T1 code .. (0x8A); T3 code (0x32); T_E .. (1,000); MNTC .. (10); block repeats .. (5, house); T_WAIT .. (1,000, house); test interval .. (10,000, house); unanswered tests allowed .. (5, house)"
 pub default-values : defaults
     ≡ record {
       receive = 0x300;
       unit = 0x01;
-      block = 15;
+      block = 8;
       t1 = 0x8A;
       t3 = 0x32;
       «t_e» = 1000;

@@ -1,17 +1,17 @@
--- 01, "The record and its calls": the settings, with default and range.
+-- 01, "The record and its calls": the settings, with default and range; 02, request 3: the default block size.
 use Prim.Native.Nat.{ℕ, _%_}
 use mathlib.Core.Bool.{Bool, not, _&&_}
 use lib.Dec.{leb, eqb}
 use Rattle.telegram.specs.Kinds.{badBlock}
 use Rattle.settings.specs.declared.Settings.{Settings}
 
--- the defaults
+-- the defaults of 01, but for the block size: "from 15 to 8" (02, request 3)
 abbrev pub defaults : Settings
 defaults =
     record {
       receive = 0x300;
       unit = 0x01;
-      block = 15;
+      block = 8;
       t1 = 0x8A;
       t3 = 0x32;
       «t_e» = 1000;

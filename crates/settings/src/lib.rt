@@ -33,7 +33,7 @@ impl Settings {
     pub const DEFAULT: Settings = Settings {
         receive: 0x300,
         unit: 0x01,
-        block: 15,
+        block: 8,
         t1: 0x8A,
         t3: 0x32,
         t_e: 1000,

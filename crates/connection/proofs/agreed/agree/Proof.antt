@@ -1,15 +1,15 @@
-use Prim.Native.Nat.{ℕ, min}
+use Prim.Native.Nat.{ℕ}
 use mathlib.Core.Path.{_≡_}
-use Rattle.telegram.specs.Time.{tenthsOf}
 use Rattle.telegram.specs.declared.kinds.Parameters.{Parameters as Fields}
 use Rattle.settings.specs.declared.Settings.{Settings}
-use Rattle.connection.specs.Record.{ownFields, agreed}
+use Rattle.connection.specs.Record.{agreed}
 use borrow.Author.Needs.{needs}
 use Rattle.connection.proofs.agreed.agree.Statement.{statement}
 use Rattle.connection.proofs.agreed.agree.Tie as tie
 
 -- what is agreed, of its parts
-agrees : (s : Settings) (p own : Fields) (block t1 t3 : ℕ) → block ≡ min (s .block) (p .block) → t1 ≡ tenthsOf (s .t1) → t3 ≡ tenthsOf (p .t3) → own ≡ ownFields s
+agrees : (s : Settings) (p own : Fields) (block t1 t3 : ℕ)
+    → block ≡ agreed s p .terms .block → t1 ≡ agreed s p .terms .t1 → t3 ≡ agreed s p .terms .t3 → own ≡ agreed s p .own
     → record {
       terms = record { block = block; t1 = t1; t3 = t3; repeats = s .mntb; «t_wait» = s .«t_wait» };
       interval = s .«t_ct»;
