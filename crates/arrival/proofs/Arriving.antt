@@ -201,3 +201,20 @@ module _ (limit : ℕ) (c : Channel) (p : List ℕ) (room : ℕ) where
       (ackAnswer-settles c _ _ λ e.
       let u = onAck-usedUp (c .parameters .terms) (c .sender) ready number .0 e in
       ap (λ (h : Heard). h .sender) (onAck-gives-up (c .parameters .terms) (c .sender) ready number (u .0) (u .1)))
+
+  -- every arrival but a disconnect closes with 8 alone
+  pub arrived-settles : (t : Telegram) → t ≢ Disconnect → ArrivalSettles t
+  unfolding arrived onAccept
+  arrived-settles (Data asks last number) other = arrived-data-settles asks last number
+  arrived-settles (Ack ready number) other = arrived-ack-settles ready number
+  arrived-settles Test other = rw answered-is (goes-on c _ _ refl)
+  arrived-settles Break other = rw answered-is (goes-on c _ _ refl)
+  arrived-settles Disconnect other = absurd (other refl)
+  arrived-settles (Setup s) other = rw answered-is (goes-on c _ _ refl)
+  arrived-settles (Accept s) other =
+      by-not P (c .tests .out) (λ _. rw answered-is (goes-on c _ _ refl)) λ _.
+      by P (badBlock (s .block)) (λ _. rw answered-is (goes-on c _ _ refl)) λ _. rw answered-is (goes-on c _ _ refl)
+    where
+      P : Answered → Type 0
+      P x = Settles c (x .answer) (x .channel)
+  arrived-settles Malformed other = rw answered-is (goes-on c _ _ refl)

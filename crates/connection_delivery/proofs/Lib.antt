@@ -1,4 +1,4 @@
 pub mod Ends
-pub mod Lifted
-pub mod Demand3
+pub mod Lawful
 pub mod Opened
+pub mod Demand3

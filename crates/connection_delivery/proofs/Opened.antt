@@ -1,4 +1,4 @@
--- Demand 3 for two connection records speaks of something: every two allowed settings open two fresh records.
+-- Demand 3 and request 14 speak of something for two connection records: every two allowed settings open two fresh ones.
 use Prim.Native.Nat.{ℕ, _+_, min, _≤_, _<_, _%_, _/_}
 use native.Mathlib.Nat.{one-le-mul, one-le-pow}
 use native.Mathlib.Omega.{arith}
@@ -24,7 +24,7 @@ use Rattle.connection.specs.declared.Connection.{Connection}
 use Rattle.connection.specs.Record.{listensOn, hears, closedRecord, withAttempt, requesting, agreeing, ownFields, opened}
 use Rattle.connection.specs.Calls.{gives, brings, handOver, opening, onReply, onAccept, onAgreeing, arrived, attemptOut, requestDue, dueOf}
 use Rattle.delivery.specs.System.{Try}
-use Rattle.connection_delivery.specs.Claim.{FreshPair}
+use Rattle.delivery.specs.Claim.{Fresh}
 use Rattle.connection_delivery.specs.Opening.{exchange, openedPair}
 
 -- what the theorem needs of allowed settings
@@ -104,13 +104,13 @@ module _ (limit : ℕ) (s : Settings) (a : allowed s ≡ true) (transmit : ℕ) 
 
 -- ---- two ends
 
--- every answer is 0, and the pair is fresh, whatever its buffers
+-- every answer is 0, and the two are fresh, whatever their buffers
 pub opening-leads-to-fresh : (limit : ℕ) (s t : Settings) → allowed s ≡ true → allowed t ≡ true
     → (f g : Fields) → 1 ≤ f .block → f .block ≤ 15 → 1 ≤ g .block → g .block ≤ 15 → min (t .block) (g .block) ≡ min (s .block) (f .block)
     → (b c : List ℕ) (try : Try)
     → (exchange limit s (t .receive) f (length b) .answers ≡ replicate 5 (Channel Good))
     × (exchange limit t (s .receive) g (length c) .answers ≡ replicate 5 (Channel Good))
-    × FreshPair (openedPair limit s t f g b c try)
+    × Fresh (openedPair limit s t f g b c try)
 opening-leads-to-fresh limit s t a a′ f g least most least′ most′ agreed b c try =
     let p = allowed-parts s a in
     let q = allowed-parts t a′ in
@@ -118,29 +118,23 @@ opening-leads-to-fresh limit s t a a′ f g least most least′ most′ agreed b
       refl,
       refl,
       record {
-        near = refl;
-        far = refl;
-        forth = refl;
-        back = refl;
-        fresh =
-            record {
-              near = record { sender = refl; receiver = refl; tests = refl; accept = refl; t1 = p .t1; «t_wait» = p .«t_wait»; live = refl };
-              far = record { sender = refl; receiver = refl; tests = refl; accept = refl; t1 = q .t1; «t_wait» = q .«t_wait»; live = refl };
-              agreed = agreed;
-              least = omega (arith, p .least);
-              most = omega (arith, p .most);
-              forward = refl;
-              backward = refl;
-              history = refl;
-            };
+        near = record { open′ = refl; sender = refl; receiver = refl; tests = refl; accept = refl; t1 = p .t1; «t_wait» = p .«t_wait» };
+        far = record { open′ = refl; sender = refl; receiver = refl; tests = refl; accept = refl; t1 = q .t1; «t_wait» = q .«t_wait» };
+        to-far = refl;
+        to-near = refl;
+        agreed = agreed;
+        least = omega (arith, p .least);
+        most = omega (arith, p .most);
         forward = refl;
         backward = refl;
+        forth = refl;
+        back = refl;
       },
     )
 
 -- each end's A1 with the other's own fields: any two allowed settings do
 pub opened-to-each-other : (limit : ℕ) (s t : Settings) → allowed s ≡ true → allowed t ≡ true → (b c : List ℕ) (try : Try)
-    → FreshPair (openedPair limit s t (ownFields t) (ownFields s) b c try)
+    → Fresh (openedPair limit s t (ownFields t) (ownFields s) b c try)
 opened-to-each-other limit s t a a′ b c try =
     let p = allowed-parts s a in
     let q = allowed-parts t a′ in

@@ -1,3 +1,2 @@
-pub mod Pair
-pub mod Claim
+pub mod Ends
 pub mod Opening

@@ -14,9 +14,9 @@ use Rattle.connection.specs.declared.Connection.{Connection}
 use Rattle.connection.specs.declared.Due.{Due}
 use Rattle.connection.specs.Record.{closedRecord}
 use Rattle.connection.specs.Calls.{opening, arrived, dueOf}
-use Rattle.delivery.specs.System.{Try}
+use Rattle.delivery.specs.System.{Try, System}
 use Rattle.delivery.specs.Claim.{noHistory}
-use Rattle.connection_delivery.specs.Pair.{Pair}
+use Rattle.connection_delivery.specs.Ends.{connectionEnd}
 
 -- the answers of the five calls, the frames handed over, and the record that is left
 pub record Exchange : Type 0 where
@@ -43,12 +43,13 @@ exchange limit s transmit fields room =
     })
 
 -- two records opened to each other's receive IDs, each with an A1 of its own, and nothing on its way
-abbrev pub openedPair : (limit : ℕ) → (s t : Settings) → (fields fields′ : Fields) → (b b′ : List ℕ) → Try → Pair
+abbrev pub openedPair : (limit : ℕ) → (s t : Settings) → (fields fields′ : Fields) → (b b′ : List ℕ) → Try → System (connectionEnd limit) (connectionEnd limit)
 openedPair limit s t fields fields′ b b′ try =
     record {
-      near = record { connection = exchange limit s (t .receive) fields (length b) .connection; buffer = b };
-      far = record { connection = exchange limit t (s .receive) fields′ (length b′) .connection; buffer = b′ };
+      near = record { state = exchange limit s (t .receive) fields (length b) .connection; buffer = b };
+      far = record { state = exchange limit t (s .receive) fields′ (length b′) .connection; buffer = b′ };
       forward = [];
       backward = [];
-      history = noHistory try;
+      forth = noHistory try;
+      back = noHistory try;
     }

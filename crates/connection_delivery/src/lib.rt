@@ -1,1 +1,1 @@
-// Demand 3 for two connection records, with their IDs: definitions (specs/) and theorems (proofs/). No code.
+// The connection record as an end of `delivery`, lawful, and how two of them come to be fresh: definitions (specs/) and theorems (proofs/). No code.

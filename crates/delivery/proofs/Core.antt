@@ -2,7 +2,7 @@
 -- the data frames of the one link and the Acks of the other, and what happened so far.
 -- A move runs the very definition of the half that it is about. What else an end does (tests, the other direction) is no move of this one.
 use Prim.Native.Nat.{ℕ, _+_, _-_, _*_, _/_, _%_}
-use mathlib.Core.Bool.{Bool, false, not}
+use mathlib.Core.Bool.{Bool, true, false, not}
 use mathlib.Core.List.{List, [], _∷_, _++_}
 use lib.ListN.{length, take, drop}
 use Rattle.laws.specs.If.{if_then_else_}
@@ -23,13 +23,14 @@ use Rattle.sender.specs.declared.Handed.{Handed}
 use Rattle.receiver.specs.Receiving.{onData, buffered, took, shown, ackHanded}
 use Rattle.receiver.specs.declared.Receiver.{Receiver}
 use Rattle.receiver.specs.declared.Received.{Received}
+use Rattle.receiver.specs.declared.Taking.{Taking}
+use Rattle.receiver.specs.declared.Taking.the-variants.{Shown, NoneComplete, ShortBuffer}
 use Rattle.receiver.specs.declared.Took.{Took}
 use Rattle.channel.specs.declared.Answer.{Answer}
 use Rattle.channel.specs.declared.Answer.the-variants.{Good, UsedUp}
-use Rattle.channel.specs.Numbers.{closes}
+use Rattle.channel.specs.Numbers.{said, closes}
 use Rattle.arrival.specs.Arrived.{ackAnswer}
-use Rattle.delivery.specs.System.{Try, History, Fate, accepting, withMessages, withTries, handing, answerNoted, losing, lent, shownBy}
-use Rattle.delivery.specs.System.Side.{near}
+use Rattle.delivery.specs.System.{Try, History, Fate, withMessages, withTries, handing, noted, losing, lent}
 use Rattle.delivery.specs.System.Fate.{goes, stays, lost}
 
 -- a data frame on its way, as it is sorted, and its try
@@ -69,7 +70,7 @@ pub data Move : Type 0 where
   receive : Fate → Move
   taken : Move
   acknowledge : Move
-  -- an end is closed, for whatever reason
+  -- an end is closed: the sending one by 8 for another cause than its own repeats, the receiving one for whatever cause
   closeSending : Move
   closeReceiving : Move
   -- nothing happens to this direction
@@ -153,7 +154,15 @@ withLosses h l = withTries h (h .frames) (h .turns) (h .ackTry) l
 
 -- and with other messages handed out
 abbrev pub withHandedOut : History → List (List ℕ) → History
-withHandedOut h l = withMessages h (h .accepted) l (h .done) (h .givenUp)
+withHandedOut h l = withMessages h (h .accepted) (h .complete) l (h .done) (h .eight)
+
+-- a message accepted
+abbrev pub accepting : History → List ℕ → History
+accepting h m = withMessages h (h .accepted ++ (m ∷ [])) (h .complete) (h .handedOut) (h .done) (h .eight)
+
+-- the answer of the sending end's channel: done, or 8
+abbrev pub answerNoted : History → Answer → History
+answerNoted h a = noted h (said a .done) (said a .number)
 
 -- ---- at the sending end
 
@@ -168,7 +177,7 @@ offeredTo d m o = withSending d (o .sender) (d .live) (offerNoted (o .note) (d .
 
 -- what an Ack leaves: done and 8 are noted, 8 closes
 abbrev pub heardTo : Direction → Heard → Direction
-heardTo d g = withSending d (g .sender) (not (closes (ackAnswer (g .note)))) (answerNoted near (d .history) (ackAnswer (g .note)))
+heardTo d g = withSending d (g .sender) (not (closes (ackAnswer (g .note)))) (answerNoted (d .history) (ackAnswer (g .note)))
 
 -- the answer to passing time
 abbrev pub passAnswer : Passing → Answer
@@ -177,7 +186,7 @@ passAnswer Again = Good
 passAnswer RanOut = UsedUp
 
 abbrev pub passedTo : Direction → Passed → Direction
-passedTo d g = withSending d (g .sender) (not (closes (passAnswer (g .note)))) (answerNoted near (d .history) (passAnswer (g .note)))
+passedTo d g = withSending d (g .sender) (not (closes (passAnswer (g .note)))) (answerNoted (d .history) (passAnswer (g .note)))
 
 -- the try of the next frame
 abbrev pub tryNow : Direction → Try
@@ -229,7 +238,7 @@ hearing fate [] d = d
 hearing goes (f ∷ l) d =
     if d .live then heardTo (withAcks d l (d .history)) (onAck (d .terms) (d .sender) (f .ready) (f .number)) else withAcks d l (d .history)
 hearing stays (f ∷ l) d = if d .live then heardTo d (onAck (d .terms) (d .sender) (f .ready) (f .number)) else d
-hearing lost (f ∷ l) d = withAcks d l (losing (d .history) (f .try))
+hearing lost (f ∷ l) d = withAcks d l (losing (d .history) true (f .try))
 
 -- ---- at the receiving end
 
@@ -252,7 +261,13 @@ abbrev pub receiving : (limit : ℕ) → Fate → List DataFrame → Direction �
 receiving limit fate [] d = d
 receiving limit goes (f ∷ l) d = if d .listens then received limit (withFrames d l (d .history)) f else withFrames d l (d .history)
 receiving limit stays (f ∷ l) d = if d .listens then received limit d f else d
-receiving limit lost (f ∷ l) d = withFrames d l (losing (d .history) (f .try))
+receiving limit lost (f ∷ l) d = withFrames d l (losing (d .history) true (f .try))
+
+-- what a take shows
+abbrev pub shownBy : Taking → List ℕ → List (List ℕ)
+shownBy Shown m = m ∷ []
+shownBy NoneComplete m = []
+shownBy ShortBuffer m = []
 
 abbrev pub tookTo : Direction → Took → Direction
 tookTo d g = withReceiving d (g .receiver) (d .buffer) (handing (d .history) (shownBy (g .note) (shown (d .receiver) (d .buffer))))
@@ -282,7 +297,7 @@ move limit d hand = if d .live then handedTo d (handed (d .terms) (d .sender) (l
 move limit d (receive fate) = receiving limit fate (d .frames) d
 move limit d taken = if d .listens then tookTo d (took (d .receiver) (length (d .buffer))) else d
 move limit d acknowledge = if d .listens then (if d .receiver .ack .due then withAck d else d) else d
-move limit d closeSending = withSending d (d .sender) false (d .history)
+move limit d closeSending = withSending d (d .sender) false (answerNoted (d .history) UsedUp)
 move limit d closeReceiving = withListens d false
 move limit d rest = d
 

@@ -2,19 +2,19 @@
 -- Whatever makes of its calls a list of moves of a direction (`moved`) has all of this of that direction.
 use Prim.Native.Nat.{ℕ, _+_, _≤_, _<_}
 use native.Mathlib.Omega.{arith}
-use mathlib.Core.Bool.{true, false}
+use mathlib.Core.Bool.{false, not}
 use mathlib.Core.List.{List, [], _∷_}
 use mathlib.Core.Logic.{_⊎_, inl, inr}
 use mathlib.Core.Path.{_≡_, refl, ap, subst, sym, _∙_}
 use lib.ListN.{length, getD, take}
 use lib.Seq.{take-all}
 use Rattle.laws.proofs.Cases.{by-lt}
+use Rattle.sender.specs.declared.Sender.{Sender}
 use Rattle.delivery.specs.Claim.{Within}
 use Rattle.delivery.proofs.Core.{Direction, Move, move, moved}
-use Rattle.delivery.proofs.Invariant.{Kept}
-use Rattle.delivery.proofs.SendingKeeps.{in-sending}
+use Rattle.delivery.proofs.Invariant.{Half, Sending, Complete, Content, Kept}
 use Rattle.delivery.proofs.ReceivingKeeps.{done-complete}
-use Rattle.delivery.proofs.Moves.{Closed, within-first, move-keeps, move-closed, moved-held}
+use Rattle.delivery.proofs.Moves.{Closed, Unforced, GaveUp, within-first, move-keeps, move-closed, move-gave-up, moved-held}
 
 -- ---- lists of moves
 
@@ -34,6 +34,17 @@ moved-closed limit (m ∷ ms) d c =
     let b = moved-closed limit ms (move limit d m) (a .live′) in
     record { live′ = b .live′; accepted = b .accepted ∙ a .accepted; done = b .done ∙ a .done }
 
+-- no move of the list closes the sending end for another cause than its own repeats
+abbrev pub AllUnforced : List Move → Type 0
+AllUnforced [] = Unit {0}
+AllUnforced (m ∷ ms) = Unforced m × AllUnforced ms
+
+pub moved-gave-up : (limit room : ℕ) → limit < 65536 → (ms : List Move) (d : Direction) → Kept limit room d → Within room (moved limit d ms .history .accepted)
+    → GaveUp d → AllUnforced ms → GaveUp (moved limit d ms)
+moved-gave-up limit room small [] d k w b u = b
+moved-gave-up limit room small (m ∷ ms) d k w b u =
+    moved-gave-up limit room small ms (move limit d m) (move-keeps small (moved-within limit room (m ∷ ms) d w) k m) w (move-gave-up k b m (u .0)) (u .1)
+
 -- ---- what the direction promises
 
 -- the message waits complete in the buffer: a take shows exactly it
@@ -47,11 +58,44 @@ pub record Delivers (limit : ℕ) (d : Direction) : Type 0 where
   -- each message done is handed out, or the next to be and waits complete
   pub done : (i : ℕ) → i < d .history .done
       → (i < length (d .history .handedOut)) ⊎ ((length (d .history .handedOut) ≡ i) × Ready d (getD (d .history .accepted) i []))
-  -- 8 was answered: the sending end is closed, with one message accepted that is not done
-  pub givenUp : d .history .givenUp ≡ true → (d .live ≡ false) × (length (d .history .accepted) ≡ d .history .done + 1)
-  -- a message that is not done when the sending end is closed, by 8 or otherwise, is handed out whole or no part of it ever is
+  -- a message that waits is the next to be handed out
+  pub waits : 1 ≤ d .receiver .complete .length → Ready d (getD (d .history .accepted) (length (d .history .handedOut)) []) × (length (d .history .handedOut) < length (d .history .accepted))
+  -- at most the last message accepted is not done
+  pub last : length (d .history .accepted) ≤ d .history .done + 1
+  -- the sending end is open exactly as long as it did not answer 8
+  pub closed : d .live ≡ not (d .history .eight)
+  -- a message not done when the sending end has answered 8 is handed out whole or no part of it ever is
   pub wholeOrNever : d .live ≡ false → length (d .history .accepted) ≡ d .history .done + 1 → (ms : List Move)
       → (length (moved limit d ms .history .handedOut) ≤ d .history .done) ⊎ (moved limit d ms .history .handedOut ≡ d .history .accepted)
+
+-- at most one message accepted is not done
+last-undone : {limit done size used block : ℕ} {accepted : List (List ℕ)} {m : List ℕ} {s : Sender} → Half limit accepted done size used block m s
+    → length accepted ≤ done + 1
+last-undone (inl i) = omega (arith, i .counted)
+last-undone (inr b) = omega (arith, b .counted)
+
+done-most : {limit done size used block : ℕ} {accepted : List (List ℕ)} {m : List ℕ} {s : Sender} → Half limit accepted done size used block m s
+    → done ≤ length accepted
+done-most (inl i) = omega (arith, i .counted)
+done-most (inr b) = omega (arith, b .counted)
+
+-- what waits in the buffer is the message behind those handed out
+waits-next : {limit size used block : ℕ} {d : Direction} → Sending limit (d .history) size used block (d .sender) → Content used (d .history) (d .receiver) (d .buffer)
+    → 1 ≤ d .receiver .complete .length
+    → Ready d (getD (d .history .accepted) (length (d .history .handedOut)) []) × (length (d .history .handedOut) < length (d .history .accepted))
+waits-next {used = used} {d = d} half held some = go held
+  where
+    found : (count : ℕ) → count ≤ length (d .history .accepted)
+        → Complete count (d .history .accepted) (d .history .handedOut) (d .receiver .complete .length) (d .buffer)
+        → Ready d (getD (d .history .accepted) (length (d .history .handedOut)) []) × (length (d .history .handedOut) < length (d .history .accepted))
+    found count most (inl o) = absurd (omega (arith, o .none))
+    found count most (inr w) = (record { some = w .some; fits = w .fits; front = w .front }, omega (arith, w .all))
+
+    go : Content used (d .history) (d .receiver) (d .buffer)
+        → Ready d (getD (d .history .accepted) (length (d .history .handedOut)) []) × (length (d .history .handedOut) < length (d .history .accepted))
+    go (inl b) = found (d .history .done) (done-most half) (b .complete)
+    go (inr (inl p)) = absurd (omega (arith, p .complete .none))
+    go (inr (inr w)) = found (d .history .done + 1) (omega (arith, w .counted)) (w .complete)
 
 whole-or-never : (limit room : ℕ) → limit < 65536 → (d : Direction) → Kept limit room d → Within room (d .history .accepted)
     → d .live ≡ false → length (d .history .accepted) ≡ d .history .done + 1 → (ms : List Move)
@@ -71,7 +115,9 @@ delivers limit room small d k w =
     record {
       inOrder = v .inOrder;
       done = λ i h. ready (done-complete v i h);
-      givenUp = λ l. let c = v .givenUp l in (c .0, in-sending v (c .1) .counted);
+      waits = λ h. waits-next (v .sending) (v .content) h;
+      last = last-undone (v .sending);
+      closed = v .eight;
       wholeOrNever = whole-or-never limit room small d k w;
     }
   where

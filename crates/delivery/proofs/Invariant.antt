@@ -5,7 +5,7 @@
 --     block    how many blocks of it are acknowledged
 --     places   the indices of the data frames in the link, in their order
 use Prim.Native.Nat.{ℕ, _+_, _-_, _*_, max, _%_, _≤_, _<_}
-use mathlib.Core.Bool.{true, false}
+use mathlib.Core.Bool.{true, false, not}
 use mathlib.Core.Path.{_≡_}
 use mathlib.Core.Logic.{_⊎_}
 use mathlib.Core.List.{List, [], _∷_}
@@ -168,8 +168,8 @@ pub record Invariant (limit room start used block : ℕ) (places : List ℕ) (d 
   pub backward : Backward (start + d .sender .acked) (start + used) (d .receiver .ack) (d .acks)
   pub content : Content used (d .history) (d .receiver) (d .buffer)
   pub inOrder : d .history .handedOut ≡ take (length (d .history .handedOut)) (d .history .accepted)
-  -- 8 was answered: the sending end is closed, and a message is in sending
-  pub givenUp : d .history .givenUp ≡ true → (d .live ≡ false) × (1 ≤ d .sender .length)
+  -- the sending end is open exactly as long as it did not answer 8
+  pub eight : d .live ≡ not (d .history .eight)
 
 -- for some ghosts
 abbrev pub Kept : (limit room : ℕ) (d : Direction) → Type 0

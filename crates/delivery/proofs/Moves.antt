@@ -1,7 +1,7 @@
 -- Every move keeps the invariant, as long as the receiving end's buffer holds each message accepted.
 use Prim.Native.Nat.{ℕ, zero, suc, _+_, max, _≤_, _<_}
 use native.Mathlib.Omega.{arith}
-use mathlib.Core.Bool.{Bool, false, true≢false}
+use mathlib.Core.Bool.{Bool, true, false, true≢false, false≢true, or-false}
 use mathlib.Core.List.{List, [], _∷_, _++_}
 use mathlib.Core.Path.{_≡_, refl, sym, subst, _∙_}
 use lib.ListN.{length, getD}
@@ -11,16 +11,20 @@ use Rattle.sender.specs.Sending.{offered, handed}
 use Rattle.sender.specs.declared.Sender.{Sender}
 use Rattle.sender.specs.declared.Offer.{Offer}
 use Rattle.sender.specs.declared.Offer.the-variants.{Accepted, Busy as InSending, BadLength as NotSent}
+use Rattle.sender.specs.declared.Heard.{Heard}
+use Rattle.sender.specs.declared.Passed.{Passed}
 use Rattle.sender.specs.declared.Handing.{Handing}
 use Rattle.sender.specs.declared.Handing.the-variants.{Frame, Nothing as NoFrame, OtherLength}
+use Rattle.sender.proofs.Acks.{AckCase, no-message, in-hold, repeated, beyond, ack-used-up, held-back, all-acked, part-acked, ackCase}
+use Rattle.sender.proofs.Time.{TimeCase, no-wait, runs-on, wait-used-up, sends-again, timeCase}
 use Rattle.delivery.specs.System.{Try, Fate, lent}
 use Rattle.delivery.specs.System.Fate.{goes, stays, lost}
 use Rattle.delivery.specs.Claim.{Within}
-use Rattle.delivery.proofs.Core.{DataFrame, AckFrame, Direction, Move, withSending, withListens, withFrames, withAcks, withLosses, offeredTo, handedBy, hearing, receiving, move, moved}
+use Rattle.delivery.proofs.Core.{DataFrame, AckFrame, Direction, Move, withListens, withFrames, withAcks, withLosses, offeredTo, heardTo, passedTo, handedBy, hearing, receiving, move, moved}
 use Rattle.delivery.proofs.Core.Move.{offer, hear, pass, hand, receive, taken, acknowledge, closeSending, closeReceiving, rest}
 use Rattle.delivery.proofs.Invariant.{current, Placed, Forward, Shows, Backward, Invariant, Kept}
 use Rattle.delivery.proofs.Links.{forward-bounds, backward-bounds}
-use Rattle.delivery.proofs.SendingKeeps.{offer-keeps, ack-keeps, pass-keeps, hand-keeps}
+use Rattle.delivery.proofs.SendingKeeps.{no-eight, waits-busy, given-up-keeps, offer-keeps, ack-keeps, pass-keeps, hand-keeps}
 use Rattle.delivery.proofs.ReceivingKeeps.{data-keeps, take-keeps, acknowledge-keeps}
 
 -- each of the messages is within the room
@@ -35,12 +39,12 @@ within-first room [] more w = tt
 within-first room (m ∷ ms) more w = (w .0, within-first room ms more (w .1))
 
 module _ {limit room start used block : ℕ} {d : Direction} where
-  -- other frames and Acks in the links
-  links-keep : {places : List ℕ} (v : Invariant limit room start used block places d) (is : List ℕ) (l : List DataFrame) (k : List AckFrame) (ls : List Try)
+  -- other frames and Acks in the links, and the receiving end open or not
+  links-keep : {places : List ℕ} (v : Invariant limit room start used block places d) (is : List ℕ) (l : List DataFrame) (k : List AckFrame) (ls : List Try) (listens : Bool)
       → Forward start (start + d .sender .high) (current (d .history)) (d .terms .block) (start + used) is l
       → Backward (start + d .sender .acked) (start + used) (d .receiver .ack) k
-      → Invariant limit room start used block is (withAcks (withFrames d l (d .history)) k (withLosses (d .history) ls))
-  links-keep v is l k ls forward backward =
+      → Invariant limit room start used block is (withListens (withAcks (withFrames d l (d .history)) k (withLosses (d .history) ls)) listens)
+  links-keep v is l k ls listens forward backward =
       record {
         fair = v .fair;
         room′ = v .room′;
@@ -51,24 +55,7 @@ module _ {limit room start used block : ℕ} {d : Direction} where
         backward = backward;
         content = v .content;
         inOrder = v .inOrder;
-        givenUp = v .givenUp;
-      }
-
-  -- an end closed or not: only 8 has to do with that
-  ends-keep : {places : List ℕ} (v : Invariant limit room start used block places d) (live listens : Bool) → (d .live ≡ false → live ≡ false)
-      → Invariant limit room start used block places (withListens (withSending d (d .sender) live (d .history)) listens)
-  ends-keep v live listens h =
-      record {
-        fair = v .fair;
-        room′ = v .room′;
-        sending = v .sending;
-        oldest = v .oldest;
-        expected = v .expected;
-        forward = v .forward;
-        backward = v .backward;
-        content = v .content;
-        inOrder = v .inOrder;
-        givenUp = λ w. (h (v .givenUp w .0), v .givenUp w .1);
+        eight = v .eight;
       }
 
   -- the first Ack is gone
@@ -78,7 +65,7 @@ module _ {limit room start used block : ℕ} {d : Direction} where
   ack-gone v f l e ls =
       let p = subst (Backward (start + d .sender .acked) (start + used) (d .receiver .ack)) e (v .backward) in
       let s = p .1 in
-      links-keep v _ (d .frames) l ls (v .forward)
+      links-keep v _ (d .frames) l ls (d .listens) (v .forward)
       (backward-bounds (p .0) (start + d .sender .acked) (start + used) (start + used) (d .receiver .ack) (omega arith) (omega arith) l (p .2))
 
   hear-keeps : {places : List ℕ} (v : Invariant limit room start used block places d) (fate : Fate) (l : List AckFrame) → d .acks ≡ l
@@ -105,7 +92,7 @@ module _ {limit room start used block : ℕ} {d : Direction} where
   frame-gone i is v f l e ls =
       let top = start + d .sender .high in
       let p = subst (Forward start top (current (d .history)) (d .terms .block) (start + used) (i ∷ is)) e (v .forward) in
-      links-keep v is l (d .acks) ls
+      links-keep v is l (d .acks) ls (d .listens)
       (forward-bounds start top top (current (d .history)) (d .terms .block) (max (start + used) (i + 1)) (start + used) (omega arith) (omega arith) is l (p .1))
       (v .backward)
 
@@ -147,8 +134,8 @@ move-keeps {limit} {room} {d} small within k acknowledge =
     by (Kept limit room) (d .listens)
     (λ _. by (Kept limit room) (d .receiver .ack .due) (λ due. (k .0, k .1, k .2, k .3, acknowledge-keeps (k .4) due)) λ _. k)
     λ _. k
-move-keeps {limit} {room} {d} small within k closeSending = (k .0, k .1, k .2, k .3, ends-keep (k .4) false (d .listens) (λ _. refl))
-move-keeps {limit} {room} {d} small within k closeReceiving = (k .0, k .1, k .2, k .3, ends-keep (k .4) (d .live) false (λ e. e))
+move-keeps {limit} {room} {d} small within k closeSending = (k .0, k .1, k .2, k .3, given-up-keeps (k .4))
+move-keeps {limit} {room} {d} small within k closeReceiving = (k .0, k .1, k .2, k .3, links-keep (k .4) (k .3) (d .frames) (d .acks) (d .history .losses) false (k .4 .forward) (k .4 .backward))
 move-keeps small within k rest = k
 
 -- ---- what moves do to the messages accepted
@@ -194,6 +181,80 @@ move-closed limit d c m = go m
     go closeSending = record { live′ = refl; accepted = refl; done = refl }
     go closeReceiving = record { live′ = c; accepted = refl; done = refl }
     go rest = same
+
+-- a move other than the closing of the sending end for another cause than its own repeats
+abbrev pub Unforced : Move → Type 0
+Unforced (offer m) = Unit {0}
+Unforced (hear fate) = Unit {0}
+Unforced (pass n) = Unit {0}
+Unforced hand = Unit {0}
+Unforced (receive fate) = Unit {0}
+Unforced taken = Unit {0}
+Unforced acknowledge = Unit {0}
+Unforced closeSending = ⊥
+Unforced closeReceiving = Unit {0}
+Unforced rest = Unit {0}
+
+-- 8 was answered for a message in sending
+abbrev pub GaveUp : Direction → Type 0
+GaveUp d = d .history .eight ≡ true → 1 ≤ d .sender .length
+
+-- without such a closing 8 comes only for a message in sending
+pub move-gave-up : {limit room : ℕ} {d : Direction} → Kept limit room d → GaveUp d → (m : Move) → Unforced m → GaveUp (move limit d m)
+move-gave-up {limit} {room} {d} k b m = go m
+  where
+    not-yet : d .live ≡ true → {x : Bool} → x ≡ d .history .eight → x ≡ true → ⊥
+    not-yet live e w = false≢true (sym (no-eight (k .4) live) ∙ sym e ∙ w)
+
+    heardBy : d .live ≡ true → (ready : Bool) (number : ℕ) {h : Heard} → AckCase (d .terms) (d .sender) ready number h → GaveUp (heardTo d h)
+    heardBy live ready number (ack-used-up a u) e = a .counts .sending
+    heardBy live ready number (no-message a) e = absurd (not-yet live (or-false _) e)
+    heardBy live ready number (in-hold a u) e = absurd (not-yet live (or-false _) e)
+    heardBy live ready number (repeated a u w) e = absurd (not-yet live (or-false _) e)
+    heardBy live ready number (beyond a u w) e = absurd (not-yet live (or-false _) e)
+    heardBy live ready number (held-back a u) e = absurd (not-yet live (or-false _) e)
+    heardBy live ready number (all-acked a u) e = absurd (not-yet live (or-false _) e)
+    heardBy live ready number (part-acked a u) e = absurd (not-yet live (or-false _) e)
+
+    passedBy : d .live ≡ true → (n : ℕ) {g : Passed} → TimeCase (d .terms) (d .sender) n g → GaveUp (passedTo d g)
+    passedBy live n (wait-used-up r u) e = waits-busy (k .4 .sending) (r .runs)
+    passedBy live n (no-wait w) e = absurd (not-yet live (or-false _) e)
+    passedBy live n (runs-on l) e = absurd (not-yet live (or-false _) e)
+    passedBy live n (sends-again r u) e = absurd (not-yet live (or-false _) e)
+
+    handedOver : d .live ≡ true → (n : Handing) (s : Sender) → GaveUp (handedBy d n s)
+    handedOver live Frame s e = absurd (not-yet live refl e)
+    handedOver live NoFrame s e = b e
+    handedOver live OtherLength s e = b e
+
+    offeredBy : d .live ≡ true → (m : List ℕ) (n : Offer) (s : Sender) → GaveUp (offeredTo d m (record { note = n; sender = s }))
+    offeredBy live m Accepted s e = absurd (not-yet live refl e)
+    offeredBy live m InSending s e = absurd (not-yet live refl e)
+    offeredBy live m NotSent s e = absurd (not-yet live refl e)
+
+    heard : (fate : Fate) (l : List AckFrame) → GaveUp (hearing fate l d)
+    heard fate [] = b
+    heard goes (f ∷ l) = by GaveUp (d .live) (λ live. heardBy live (f .ready) (f .number) (ackCase (d .terms) (d .sender) (f .ready) (f .number))) λ _. b
+    heard stays (f ∷ l) = by GaveUp (d .live) (λ live. heardBy live (f .ready) (f .number) (ackCase (d .terms) (d .sender) (f .ready) (f .number))) λ _. b
+    heard lost (f ∷ l) = b
+
+    got : (fate : Fate) (l : List DataFrame) → GaveUp (receiving limit fate l d)
+    got fate [] = b
+    got goes (f ∷ l) = by GaveUp (d .listens) (λ _. b) λ _. b
+    got stays (f ∷ l) = by GaveUp (d .listens) (λ _. b) λ _. b
+    got lost (f ∷ l) = b
+
+    go : (m : Move) → Unforced m → GaveUp (move limit d m)
+    go (offer m) u = by GaveUp (d .live) (λ live. offeredBy live m (offered limit (d .sender) (length m) .note) (offered limit (d .sender) (length m) .sender)) λ _. b
+    go (hear fate) u = heard fate (d .acks)
+    go (pass n) u = by GaveUp (d .live) (λ live. passedBy live n (timeCase (d .terms) (d .sender) n)) λ _. b
+    go hand u = by GaveUp (d .live) (λ live. handedOver live (handed (d .terms) (d .sender) (lent (d .history)) .note) _) λ _. b
+    go (receive fate) u = got fate (d .frames)
+    go taken u = by GaveUp (d .listens) (λ _. b) λ _. b
+    go acknowledge u = by GaveUp (d .listens) (λ _. by GaveUp (d .receiver .ack .due) (λ _. b) λ _. b) λ _. b
+    go closeSending u = absurd u
+    go closeReceiving u = b
+    go rest u = b
 
 -- a move only adds to the messages accepted and to the losses: what holds of both after it, and of fewer, held before it
 module _ (limit : ℕ) (P : List (List ℕ) → List Try → Type 0)

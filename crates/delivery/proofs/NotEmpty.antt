@@ -1,4 +1,4 @@
--- The second half of demand 3 speaks of something: one list of calls meets all that it assumes. Each assumption is a test that the list passes by computation.
+-- Demand 3 speaks of something: one list of calls meets all that it assumes, in either half. Each assumption is a test that the list passes by computation.
 use Prim.Native.Nat.{ℕ, _≤_, zero-le}
 use native.Mathlib.Omega.{arith}
 use mathlib.Core.Bool.{Bool, true, false, not, _&&_, _||_, false≢true}
@@ -8,55 +8,19 @@ use mathlib.Core.List.{List, [], _∷_}
 use lib.Dec.{leb, ltb, eqb}
 use borrow.Author.Tests.{leb-true, le-ltb, ne-eqb, eqb-true, not-true}
 use Rattle.laws.proofs.Cases.{both}
-use Rattle.telegram.specs.Cutting.{streamOf, framesOf, headerOf, frameAt}
-use Rattle.telegram.specs.Kinds.{kindOf, sorted}
-use Rattle.sender.specs.Sending.{offered, distance, onAck, heard, passed, frameDue, firstNumber, handed}
-use Rattle.receiver.specs.Receiving.{waiting, settled, numbered, filled, onFirst, onLater, onData, received, copied, buffered, took}
-use Rattle.channel.specs.Opened.{waitEnds, elapsed, testDue, handAccept, handTest, handAck, handData, due as dueOf, sent}
-use Rattle.arrival.specs.Arrived.{answered, onData as dataOn, onAck as ackOn, onAccept, arrived}
-use Rattle.delivery.specs.System.{System, End, Flying, Try, Call, endOf, linkTo, other, isData, step, run, sending, taking, timing, asking, arriving}
+use Rattle.telegram.specs.Kinds.{sorted}
+use Rattle.receiver.specs.Receiving.{waiting}
+use Rattle.channel.specs.Opened.{testDue}
+use Rattle.delivery.specs.End.{End}
+use Rattle.delivery.specs.System.{System, Party, Flying, Try, Act, Call, turned, isData, step, run}
+use Rattle.delivery.specs.System.Side.{near, far}
 use Rattle.delivery.specs.System.Fate.{goes, stays, lost}
-use Rattle.delivery.specs.System.Call.{send, take, time, due, arrive}
-use Rattle.delivery.specs.Claim.{Always, Along, Fresh, NoTest, Roomy, RunsOut, InTime, NoneWaits, TakenFirst, AtRest, turnsOf, different, FewLosses, framesFor}
-use Rattle.delivery.proofs.Example.{start, calls, longMessage, shortMessage}
+use Rattle.delivery.specs.System.Act.{send, take, time, due, arrive}
+use Rattle.delivery.specs.System.Call.{at}
+use Rattle.delivery.specs.Claim.{channelOf, Always, Along, Fresh, SendsNear, NoTest, Roomy, RunsOut, NearInTime, InTime, NoneWaits, NearTakenFirst, TakenFirst, AtRest, turnsOf, different, FewLosses, framesFor, repeatsOf}
+use Rattle.delivery.proofs.Example.{computed, parameters, ends-fresh, start, calls, longMessage, shortMessage}
 
 -- ---- tests of what is assumed
-
-module _ (limit : ℕ) where
-  always : (System → Bool) → System → List Call → Bool
-  always test s [] = test s
-  always test s (c ∷ cs) = test s && always test (step limit s c) cs
-
-  -- a test passed by every system on the way
-  always-shows : (P : System → Type 0) (test : System → Bool) → ((s : System) → test s ≡ true → P s)
-      → (s : System) (cs : List Call) → always test s cs ≡ true → Always limit P s cs
-  unfolding always
-  always-shows P test shows s [] h = shows s h
-  always-shows P test shows s (c ∷ cs) h =
-      let a = both (test s) (always test (step limit s c) cs) h in
-      (shows s (a .0), always-shows P test shows (step limit s c) cs (a .1))
-
-  along : (System → Call → Bool) → System → List Call → Bool
-  along test s [] = true
-  along test s (c ∷ cs) = test s c && along test (step limit s c) cs
-
-  -- a test passed by every call, in the system that it meets
-  along-shows : (P : System → Call → Type 0) (test : System → Call → Bool) → ((s : System) (c : Call) → test s c ≡ true → P s c)
-      → (s : System) (cs : List Call) → along test s cs ≡ true → Along limit P s cs
-  unfolding along
-  along-shows P test shows s [] h = tt
-  along-shows P test shows s (c ∷ cs) h =
-      let a = both (test s c) (along test (step limit s c) cs) h in
-      (shows s c (a .0), along-shows P test shows (step limit s c) cs (a .1))
-
-noTest : System → Bool
-noTest s = not (testDue (s .near .channel)) && not (testDue (s .far .channel))
-
-noTest-shows : (s : System) → noTest s ≡ true → NoTest s
-unfolding noTest
-noTest-shows s h =
-    let a = both (not (testDue (s .near .channel))) (not (testDue (s .far .channel))) h in
-    (not-true (testDue (s .near .channel)) (a .0), not-true (testDue (s .far .channel)) (a .1))
 
 empty : List Flying → Bool
 empty [] = true
@@ -67,56 +31,111 @@ unfolding empty
 empty-shows [] h = refl
 empty-shows (f ∷ l) h = absurd (false≢true h)
 
--- no wait runs out, or nothing is on its way
-inTime : System → Call → Bool
-inTime s (time side n) =
-    let wait = endOf side s .channel .sender .wait in
-    eqb wait 0 || ltb n wait || (empty (s .forward) && (empty (s .backward) && not (endOf (other side) s .channel .receiver .ack .due)))
-inTime s (send m) = true
-inTime s (take side) = true
-inTime s (due side) = true
-inTime s (arrive side fate) = true
+noneWaits : {E : End} → Party E → List Flying → Bool
+noneWaits p [] = true
+noneWaits p (f ∷ rest) = not (isData (sorted (f .bytes) .kind)) || not (waiting (channelOf p .receiver))
 
-inTime-shows : (s : System) (c : Call) → inTime s c ≡ true → InTime s c
-unfolding inTime
-inTime-shows s (time side n) h = λ (out : RunsOut (endOf side s) n).
-    let wait = endOf side s .channel .sender .wait in
-    let h′ = rw (ne-eqb wait 0 (omega arith), le-ltb n wait (out .2)) at h in
-    let a = both (empty (s .forward)) (empty (s .backward) && not (endOf (other side) s .channel .receiver .ack .due)) h′ in
-    let b = both (empty (s .backward)) (not (endOf (other side) s .channel .receiver .ack .due)) (a .1) in
-    (empty-shows (s .forward) (a .0), empty-shows (s .backward) (b .0), not-true (endOf (other side) s .channel .receiver .ack .due) (b .1))
-inTime-shows s (send m) h = tt
-inTime-shows s (take side) h = tt
-inTime-shows s (due side) h = tt
-inTime-shows s (arrive side fate) h = tt
-
-noneWaits : End → List Flying → Bool
-noneWaits e [] = true
-noneWaits e (f ∷ rest) = not (isData (sorted (f .bytes) .kind)) || not (waiting (e .channel .receiver))
-
-noneWaits-shows : (e : End) (l : List Flying) → noneWaits e l ≡ true → NoneWaits e l
+noneWaits-shows : {E : End} (p : Party E) (l : List Flying) → noneWaits p l ≡ true → NoneWaits p l
 unfolding noneWaits
-noneWaits-shows e [] h = tt
-noneWaits-shows e (f ∷ rest) h = λ isData. not-true (waiting (e .channel .receiver)) (rw isData at h)
+noneWaits-shows p [] h = tt
+noneWaits-shows p (f ∷ rest) h = λ isData. not-true (waiting (channelOf p .receiver)) (rw isData at h)
 
-takenFirst : System → Call → Bool
-takenFirst s (arrive side goes) = noneWaits (endOf side s) (linkTo side s)
-takenFirst s (arrive side stays) = noneWaits (endOf side s) (linkTo side s)
-takenFirst s (arrive side lost) = true
-takenFirst s (send m) = true
-takenFirst s (take side) = true
-takenFirst s (due side) = true
-takenFirst s (time side n) = true
+module _ {N F : End} where
+  always : (System N F → Bool) → System N F → List Call → Bool
+  always test s [] = test s
+  always test s (c ∷ cs) = test s && always test (step s c) cs
 
-takenFirst-shows : (s : System) (c : Call) → takenFirst s c ≡ true → TakenFirst s c
-unfolding takenFirst
-takenFirst-shows s (arrive side goes) h = noneWaits-shows (endOf side s) (linkTo side s) h
-takenFirst-shows s (arrive side stays) h = noneWaits-shows (endOf side s) (linkTo side s) h
-takenFirst-shows s (arrive side lost) h = tt
-takenFirst-shows s (send m) h = tt
-takenFirst-shows s (take side) h = tt
-takenFirst-shows s (due side) h = tt
-takenFirst-shows s (time side n) h = tt
+  -- a test passed by every system on the way
+  always-shows : (P : System N F → Type 0) (test : System N F → Bool) → ((s : System N F) → test s ≡ true → P s)
+      → (s : System N F) (cs : List Call) → always test s cs ≡ true → Always P s cs
+  unfolding always
+  always-shows P test shows s [] h = shows s h
+  always-shows P test shows s (c ∷ cs) h =
+      let a = both (test s) (always test (step s c) cs) h in
+      (shows s (a .0), always-shows P test shows (step s c) cs (a .1))
+
+  along : (System N F → Call → Bool) → System N F → List Call → Bool
+  along test s [] = true
+  along test s (c ∷ cs) = test s c && along test (step s c) cs
+
+  -- a test passed by every call, in the system that it meets
+  along-shows : (P : System N F → Call → Type 0) (test : System N F → Call → Bool) → ((s : System N F) (c : Call) → test s c ≡ true → P s c)
+      → (s : System N F) (cs : List Call) → along test s cs ≡ true → Along P s cs
+  unfolding along
+  along-shows P test shows s [] h = tt
+  along-shows P test shows s (c ∷ cs) h =
+      let a = both (test s c) (along test (step s c) cs) h in
+      (shows s c (a .0), along-shows P test shows (step s c) cs (a .1))
+
+  noTest : System N F → Bool
+  noTest s = not (testDue (channelOf (s .near))) && not (testDue (channelOf (s .far)))
+
+  noTest-shows : (s : System N F) → noTest s ≡ true → NoTest s
+  unfolding noTest
+  noTest-shows s h =
+      let a = both (not (testDue (channelOf (s .near)))) (not (testDue (channelOf (s .far)))) h in
+      (not-true (testDue (channelOf (s .near))) (a .0), not-true (testDue (channelOf (s .far))) (a .1))
+
+  -- no wait runs out, or nothing is on its way
+  nearInTime : System N F → Act → Bool
+  nearInTime s (time n) =
+      let wait = channelOf (s .near) .sender .wait in
+      eqb wait 0 || ltb n wait || (empty (s .forward) && (empty (s .backward) && not (channelOf (s .far) .receiver .ack .due)))
+  nearInTime s (send m) = true
+  nearInTime s take = true
+  nearInTime s due = true
+  nearInTime s (arrive fate) = true
+
+  nearInTime-shows : (s : System N F) (a : Act) → nearInTime s a ≡ true → NearInTime s a
+  unfolding nearInTime
+  nearInTime-shows s (time n) h = λ (out : RunsOut (s .near) n).
+      let wait = channelOf (s .near) .sender .wait in
+      let h′ = rw (ne-eqb wait 0 (omega (arith, out .1)), le-ltb n wait (out .2)) at h in
+      let a = both (empty (s .forward)) (empty (s .backward) && not (channelOf (s .far) .receiver .ack .due)) h′ in
+      let b = both (empty (s .backward)) (not (channelOf (s .far) .receiver .ack .due)) (a .1) in
+      (empty-shows (s .forward) (a .0), empty-shows (s .backward) (b .0), not-true (channelOf (s .far) .receiver .ack .due) (b .1))
+  nearInTime-shows s (send m) h = tt
+  nearInTime-shows s take h = tt
+  nearInTime-shows s due h = tt
+  nearInTime-shows s (arrive fate) h = tt
+
+  nearTakenFirst : System N F → Act → Bool
+  nearTakenFirst s (arrive goes) = noneWaits (s .near) (s .backward)
+  nearTakenFirst s (arrive stays) = noneWaits (s .near) (s .backward)
+  nearTakenFirst s (arrive lost) = true
+  nearTakenFirst s (send m) = true
+  nearTakenFirst s take = true
+  nearTakenFirst s due = true
+  nearTakenFirst s (time n) = true
+
+  nearTakenFirst-shows : (s : System N F) (a : Act) → nearTakenFirst s a ≡ true → NearTakenFirst s a
+  unfolding nearTakenFirst
+  nearTakenFirst-shows s (arrive goes) h = noneWaits-shows (s .near) (s .backward) h
+  nearTakenFirst-shows s (arrive stays) h = noneWaits-shows (s .near) (s .backward) h
+  nearTakenFirst-shows s (arrive lost) h = tt
+  nearTakenFirst-shows s (send m) h = tt
+  nearTakenFirst-shows s take h = tt
+  nearTakenFirst-shows s due h = tt
+  nearTakenFirst-shows s (time n) h = tt
+
+module _ {N F : End} where
+  inTime : System N F → Call → Bool
+  inTime s (at near a) = nearInTime s a
+  inTime s (at far a) = nearInTime (turned s) a
+
+  inTime-shows : (s : System N F) (c : Call) → inTime s c ≡ true → InTime s c
+  unfolding inTime
+  inTime-shows s (at near a) h = nearInTime-shows s a h
+  inTime-shows s (at far a) h = nearInTime-shows (turned s) a h
+
+  takenFirst : System N F → Call → Bool
+  takenFirst s (at near a) = nearTakenFirst s a
+  takenFirst s (at far a) = nearTakenFirst (turned s) a
+
+  takenFirst-shows : (s : System N F) (c : Call) → takenFirst s c ≡ true → TakenFirst s c
+  unfolding takenFirst
+  takenFirst-shows s (at near a) h = nearTakenFirst-shows s a h
+  takenFirst-shows s (at far a) h = nearTakenFirst-shows (turned s) a h
 
 -- the blocks of the listed losses have few
 few : ℕ → List Try → List Try → Bool
@@ -151,49 +170,37 @@ few-shows repeats losses h i b = ends (listed repeats losses i b losses h)
 
 -- ---- the list
 
--- what the list leads to
-end : System
-unfolding sending taking timing asking arriving streamOf framesOf headerOf frameAt kindOf offered distance onAck heard passed frameDue firstNumber handed settled numbered filled onFirst onLater onData received copied buffered took answered dataOn ackOn onAccept arrived waitEnds elapsed testDue handAccept handTest handAck handData dueOf sent
-end = run 1024 start calls
-
--- the list meets all that the second half of demand 3 assumes
+-- the list meets all that demand 3 assumes
 pub example :
-    Fresh start × Always 1024 NoTest start calls × Roomy start (run 1024 start calls)
-    × Along 1024 InTime start calls × Along 1024 TakenFirst start calls × AtRest (run 1024 start calls)
-    × FewLosses (start .near .channel .parameters .terms .repeats) (run 1024 start calls .history .losses)
-unfolding end always along noTest empty inTime noneWaits takenFirst few
+    Fresh start × SendsNear calls × Always NoTest start calls × Roomy start (run start calls)
+    × Along InTime start calls × Along TakenFirst start calls × AtRest (run start calls)
+    × FewLosses (repeatsOf start) (run start calls .forth .losses)
+unfolding computed always along noTest empty nearInTime inTime noneWaits nearTakenFirst takenFirst few
 example = (
-  record {
-    near = record { sender = refl; receiver = refl; tests = refl; accept = refl; t1 = omega arith; «t_wait» = omega arith; live = refl };
-    far = record { sender = refl; receiver = refl; tests = refl; accept = refl; t1 = omega arith; «t_wait» = omega arith; live = refl };
-    agreed = refl;
-    least = omega arith;
-    most = omega arith;
-    forward = refl;
-    backward = refl;
-    history = refl;
-  },
-  always-shows 1024 NoTest noTest noTest-shows start calls refl,
+  ends-fresh parameters (omega arith) (omega arith) (omega arith) (omega arith),
+  tt,
+  always-shows NoTest noTest noTest-shows start calls refl,
   (omega arith, (omega arith, tt)),
-  along-shows 1024 InTime inTime inTime-shows start calls refl,
-  along-shows 1024 TakenFirst takenFirst takenFirst-shows start calls refl,
+  along-shows InTime inTime inTime-shows start calls refl,
+  along-shows TakenFirst takenFirst takenFirst-shows start calls refl,
   record {
     forward = refl;
     backward = refl;
     near = record { nothing = refl; wait = refl; hold = refl; gap = refl };
     far = record { nothing = refl; wait = refl; hold = refl; gap = refl };
   },
-  few-shows 1 (run 1024 start calls .history .losses) refl,
+  few-shows 1 (run start calls .forth .losses) refl,
 )
 
--- then both messages are handed out and done. The first took 27 frames, of 18 in its cutting: three, four and two were sent again
+-- then both messages are complete, handed out and done. The first took 27 frames, of 18 in its cutting: three, four and two were sent again
 pub example-done :
-    (run 1024 start calls .history .handedOut ≡ longMessage ∷ shortMessage ∷ [])
-    × (run 1024 start calls .history .done ≡ 2)
-    × (framesFor 0 (run 1024 start calls .history .frames) ≡ 27)
-    × (framesFor 1 (run 1024 start calls .history .frames) ≡ 1)
-    × (run 1024 start calls .history .losses
+    (run start calls .forth .complete ≡ longMessage ∷ shortMessage ∷ [])
+    × (run start calls .forth .handedOut ≡ longMessage ∷ shortMessage ∷ [])
+    × (run start calls .forth .done ≡ 2)
+    × (framesFor 0 (run start calls .forth .frames) ≡ 27)
+    × (framesFor 1 (run start calls .forth .frames) ≡ 1)
+    × (run start calls .forth .losses
     ≡ record { message = 0; block = 4; turn = 6 } ∷ record { message = 0; block = 3; turn = 5 } ∷ record { message = 0; block = 2; turn = 3 }
     ∷ record { message = 0; block = 1; turn = 1 } ∷ record { message = 0; block = 1; turn = 1 } ∷ [])
-unfolding end
-example-done = (refl, refl, refl, refl, refl)
+unfolding computed
+example-done = (refl, refl, refl, refl, refl, refl)

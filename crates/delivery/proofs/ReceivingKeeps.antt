@@ -240,7 +240,7 @@ module _ {limit room start used block : ℕ} {places : List ℕ} {d : Direction}
             (due-keeps 0 asks _ (v .expected ∙ ap (λ (n : ℕ). n % 16) (omega arith)) acked-used);
         content = v .content;
         inOrder = v .inOrder;
-        givenUp = v .givenUp;
+        eight = v .eight;
       })
 
   -- a frame that is used leaves a receiver and a buffer
@@ -280,7 +280,7 @@ module _ {limit room start used block : ℕ} {places : List ℕ} {d : Direction}
             (due-keeps 1 asks (r .at .expected) e acked-used);
         content = content;
         inOrder = v .inOrder;
-        givenUp = v .givenUp;
+        eight = v .eight;
       }
 
   module _ (small : limit < 65536) (roomy : length (current (d .history)) ≤ room) (f : DataFrame) where
@@ -375,7 +375,7 @@ module _ {limit room start used block : ℕ} {places : List ℕ} {d : Direction}
         backward = v .backward;
         content = content-taken (shown (d .receiver) (d .buffer)) some (v .content);
         inOrder = in-order (next-waits some (v .content) (v .sending));
-        givenUp = v .givenUp;
+        eight = v .eight;
       }
     where
       more : List (List ℕ)
@@ -411,7 +411,7 @@ module _ {limit room start used block : ℕ} {places : List ℕ} {d : Direction}
         backward = backward-hand (start + d .sender .acked) (start + used) (d .receiver .ack) _ due refl (d .acks) (v .backward);
         content = v .content;
         inOrder = v .inOrder;
-        givenUp = v .givenUp;
+        eight = v .eight;
       }
 
   -- ---- what was reported done

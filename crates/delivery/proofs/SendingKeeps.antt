@@ -2,12 +2,12 @@
 use Prim.Native.Nat.{ℕ, suc, _+_, _-_, _*_, max, _%_, _≤_, _<_}
 use native.Mathlib.Nat.{mul-mod-left}
 use native.Mathlib.Omega.{arith}
-use mathlib.Core.Bool.{Bool, true, false, _||_, true≢false, false≢true}
+use mathlib.Core.Bool.{Bool, true, false, _||_, or-true}
 use mathlib.Core.List.{List, [], _∷_, _++_}
 use mathlib.Core.Logic.{inl, inr}
 use mathlib.Core.Path.{_≡_, refl, sym, ap, subst₂, _∙_}
 use lib.Dec.{eqb}
-use borrow.Author.Tests.{eq-eqb}
+use borrow.Author.Tests.{eq-eqb, not-true}
 use lib.ListN.{length, take, drop, getD, length-append, length-take, List·getD-append}
 use lib.Seq.{getD-at, take-append-le}
 use Rattle.laws.specs.If.{if_then_else_}
@@ -26,9 +26,8 @@ use Rattle.sender.proofs.Time.{TimeCase, no-wait, runs-on, wait-used-up, sends-
 use Rattle.sender.proofs.Frames.{Due, FrameCase, none-due, other-length, frame-out, frameCase}
 use Rattle.receiver.specs.declared.Standing.{Standing}
 use Rattle.channel.specs.declared.Answer.the-variants.{Good, Done, UsedUp}
-use Rattle.delivery.specs.System.{Try, accepting, answerNoted, lent}
-use Rattle.delivery.specs.System.Side.{near}
-use Rattle.delivery.proofs.Core.{DataFrame, Direction, withSending, withFrame, offeredTo, heardTo, passedTo, handedTo, frameNow}
+use Rattle.delivery.specs.System.{Try, lent}
+use Rattle.delivery.proofs.Core.{DataFrame, Direction, withSending, withFrame, offeredTo, heardTo, passedTo, handedTo, frameNow, accepting, answerNoted}
 use Rattle.delivery.proofs.Invariant.{current, Idle, Busy, Half, Sending, Carries, Placed, Forward, Shows, Backward, Begin, Complete, Content, Holds, Invariant, Kept}
 use Rattle.delivery.proofs.Links.{forward-bounds, forward-old, forward-more, backward-bounds}
 
@@ -54,7 +53,7 @@ next-block size block acked high a b c d =
     (λ h. (block + 1, omega arith, omega arith, omega arith))
 
 -- an Ack is awaited only for a message in sending
-waits-busy : {limit done size used block : ℕ} {accepted : List (List ℕ)} {m : List ℕ} {s : Sender}
+pub waits-busy : {limit done size used block : ℕ} {accepted : List (List ℕ)} {m : List ℕ} {s : Sender}
     → Half limit accepted done size used block m s → 0 < s .wait → 1 ≤ s .length
 waits-busy (inl i) h = absurd (omega (arith, i .wait))
 waits-busy (inr b) h = omega (arith, b .length′, b .some)
@@ -131,12 +130,8 @@ content-more m i (inr (inr c)) = absurd (omega (arith, c .counted, i .counted))
 
 module _ {limit room start used block : ℕ} {places : List ℕ} {d : Direction} (v : Invariant limit room start used block places d) where
   -- while the sending end is open, 8 was not answered
-  not-given-up : d .live ≡ true → d .history .givenUp ≡ false
-  not-given-up live = go (d .history .givenUp) refl
-    where
-      go : (l : Bool) → d .history .givenUp ≡ l → l ≡ false
-      go true e = absurd (true≢false (sym live ∙ v .givenUp e .0))
-      go false e = refl
+  pub no-eight : d .live ≡ true → d .history .eight ≡ false
+  no-eight live = not-true (d .history .eight) (sym (v .eight) ∙ live)
 
   -- the link, with more handed over
   wider : (high : ℕ) → d .sender .high ≤ high
@@ -153,7 +148,7 @@ module _ {limit room start used block : ℕ} {places : List ℕ} {d : Direction}
   sender-keeps : d .live ≡ true → (q : ℕ) (s : Sender) → Sending limit (d .history) (d .terms .block) used q s
       → s .oldest ≡ (start + s .acked) % 16 → d .sender .high ≤ s .high
       → Backward (start + s .acked) (start + used) (d .receiver .ack) (d .acks)
-      → Invariant limit room start used q places (withSending d s true (answerNoted near (d .history) Good))
+      → Invariant limit room start used q places (withSending d s true (answerNoted (d .history) Good))
   sender-keeps live q s sending oldest high backward =
       record {
         fair = v .fair;
@@ -165,7 +160,7 @@ module _ {limit room start used block : ℕ} {places : List ℕ} {d : Direction}
         backward = backward;
         content = v .content;
         inOrder = v .inOrder;
-        givenUp = λ w. absurd (false≢true (rw (not-given-up live) at w));
+        eight = rw (no-eight live);
       }
 
   pub in-sending : 1 ≤ d .sender .length → Busy limit (d .history .accepted) (d .history .done) (d .terms .block) used block (current (d .history)) (d .sender)
@@ -177,14 +172,14 @@ module _ {limit room start used block : ℕ} {places : List ℕ} {d : Direction}
 
   -- one more repeat
   again-keeps : d .live ≡ true → 1 ≤ d .sender .length → (pause gap : ℕ)
-      → Invariant limit room start used block places (withSending d (again (d .sender) pause gap) true (answerNoted near (d .history) Good))
+      → Invariant limit room start used block places (withSending d (again (d .sender) pause gap) true (answerNoted (d .history) Good))
   again-keeps live some pause gap =
       let b = in-sending some in
       sender-keeps live block (again (d .sender) pause gap) (inr (omega arith)) (v .oldest) (omega arith) (v .backward)
 
   -- 8: the half is as it was, and the end is closed
-  given-up-keeps : 1 ≤ d .sender .length → Invariant limit room start used block places (withSending d (d .sender) false (answerNoted near (d .history) UsedUp))
-  given-up-keeps some =
+  pub given-up-keeps : Invariant limit room start used block places (withSending d (d .sender) false (answerNoted (d .history) UsedUp))
+  given-up-keeps =
       record {
         fair = v .fair;
         room′ = v .room′;
@@ -195,7 +190,7 @@ module _ {limit room start used block : ℕ} {places : List ℕ} {d : Direction}
         backward = v .backward;
         content = v .content;
         inOrder = v .inOrder;
-        givenUp = λ w. (refl, some);
+        eight = rw (or-true (d .history .eight));
       }
 
   -- ---- an Ack
@@ -204,7 +199,7 @@ module _ {limit room start used block : ℕ} {places : List ℕ} {d : Direction}
   acknowledged-keeps : d .live ≡ true → 1 ≤ d .sender .length → (x pause : ℕ) → d .sender .acked + x ≤ used
       → (d .sender .acked + x ≡ framesOf (d .sender .length) → ⊥)
       → Backward (start + (d .sender .acked + x)) (start + used) (d .receiver .ack) (d .acks)
-      → (q : ℕ) × Invariant limit room start used q places (withSending d (acknowledged (d .sender) x pause) true (answerNoted near (d .history) Good))
+      → (q : ℕ) × Invariant limit room start used q places (withSending d (acknowledged (d .sender) x pause) true (answerNoted (d .history) Good))
   acknowledged-keeps live some x pause most more backward =
       let b = in-sending some in
       let f = v .fair in
@@ -216,7 +211,7 @@ module _ {limit room start used block : ℕ} {places : List ℕ} {d : Direction}
   finished-keeps : d .live ≡ true → 1 ≤ d .sender .length → (x pause : ℕ) → d .sender .acked + x ≤ used
       → d .sender .acked + x ≡ framesOf (d .sender .length)
       → Backward (start + (d .sender .acked + x)) (start + used) (d .receiver .ack) (d .acks)
-      → Invariant limit room (start + used) 0 0 places (withSending d (finished (d .sender) x pause) true (answerNoted near (d .history) Done))
+      → Invariant limit room (start + used) 0 0 places (withSending d (finished (d .sender) x pause) true (answerNoted (d .history) Done))
   finished-keeps live some x pause most all backward =
       let b = in-sending some in
       let same = ap framesOf (b .length′) in
@@ -233,7 +228,7 @@ module _ {limit room start used block : ℕ} {places : List ℕ} {d : Direction}
             backward-bounds (start + (d .sender .acked + x)) (start + used + 0) (start + used) (start + used + 0) (d .receiver .ack) (omega arith) (omega arith) (d .acks) backward;
         content = inl (begun (v .content));
         inOrder = v .inOrder;
-        givenUp = λ w. absurd (false≢true (rw (not-given-up live) at w));
+        eight = rw (no-eight live);
       }
     where
       begun : Content used (d .history) (d .receiver) (d .buffer)
@@ -262,7 +257,7 @@ module _ {limit room start used block : ℕ} {places : List ℕ} {d : Direction}
       x : ℕ
       x = distance (d .sender) number
 
-      nothing : Kept limit room (withSending d (d .sender) true (answerNoted near (d .history) Good))
+      nothing : Kept limit room (withSending d (d .sender) true (answerNoted (d .history) Good))
       nothing = as-before (sender-keeps live block (d .sender) (v .sending) (v .oldest) (omega arith) (v .backward))
 
       -- the Acks that follow, by the frame that this one reaches
@@ -277,7 +272,7 @@ module _ {limit room start used block : ℕ} {places : List ℕ} {d : Direction}
       go (in-hold _ _) = nothing
       go (repeated _ _ _) = nothing
       go (beyond _ _ _) = nothing
-      go (ack-used-up a _) = as-before (given-up-keeps (a .counts .sending))
+      go (ack-used-up _ _) = as-before given-up-keeps
       go (held-back a _) = as-before (again-keeps live (a .counts .sending) (d .terms .«t_wait») (d .sender .gap))
       go (all-acked a all) =
           let some = a .counts .sending in
@@ -291,7 +286,7 @@ module _ {limit room start used block : ℕ} {places : List ℕ} {d : Direction}
 
   -- no wait ran out
   later-keeps : d .live ≡ true → (n : ℕ) → Sending limit (d .history) (d .terms .block) used block (later (d .sender) n)
-      → Kept limit room (withSending d (later (d .sender) n) true (answerNoted near (d .history) Good))
+      → Kept limit room (withSending d (later (d .sender) n) true (answerNoted (d .history) Good))
   later-keeps live n sending = as-before (sender-keeps live block (later (d .sender) n) sending (v .oldest) (omega arith) (v .backward))
 
   pub pass-keeps : d .live ≡ true → (n : ℕ) → Kept limit room (passedTo d (passed (d .terms) (d .sender) n))
@@ -300,7 +295,7 @@ module _ {limit room start used block : ℕ} {places : List ℕ} {d : Direction}
       go : {g : Passed} → TimeCase (d .terms) (d .sender) n g → Kept limit room (passedTo d g)
       go (no-wait w) = later-keeps live n (unawaited n w (v .sending))
       go (runs-on l) = later-keeps live n (still-awaited n l (v .sending))
-      go (wait-used-up r _) = as-before (given-up-keeps (waits-busy (v .sending) (r .runs)))
+      go (wait-used-up _ _) = as-before given-up-keeps
       go (sends-again r _) = as-before (again-keeps live (waits-busy (v .sending) (r .runs)) (d .sender .hold - n) (d .sender .gap - n))
 
   -- ---- a frame handed over
@@ -364,7 +359,7 @@ module _ {limit room start used block : ℕ} {places : List ℕ} {d : Direction}
         backward = v .backward;
         content = v .content;
         inOrder = v .inOrder;
-        givenUp = v .givenUp;
+        eight = v .eight;
       }
 
   pub hand-keeps : Kept limit room (handedTo d (handed (d .terms) (d .sender) (lent (d .history))))
@@ -400,7 +395,7 @@ module _ {limit room start used block : ℕ} {places : List ℕ} {d : Direction}
             backward-bounds (start + s .acked) (start + 0) (start + used) (start + used) (d .receiver .ack) (omega arith) (omega arith) (d .acks) (v .backward);
         content = inl (content-more m i (v .content));
         inOrder = v .inOrder ∙ sym (take-append-le _ (d .history .accepted) (m ∷ []) handed-most);
-        givenUp = λ w. (v .givenUp w .0, t .some);
+        eight = v .eight;
       }
 
   pub offer-keeps : (m : List ℕ) → Kept limit room (offeredTo d m (offered limit (d .sender) (length m)))

@@ -14,11 +14,10 @@ use Rattle.sender.specs.declared.Terms.{Terms}
 use Rattle.sender.proofs.Numbers.{distance-oldest, distance-reaches, oldest-ahead}
 use Rattle.sender.proofs.Acks.{Acknowledges, onAck-ignored, onAck-last, onAck-part}
 use Rattle.channel.specs.declared.Answer.the-variants.{Good, Done, NoChange}
-use Rattle.delivery.specs.System.{Try, Fate, answerNoted, losing}
-use Rattle.delivery.specs.System.Side.{near}
+use Rattle.delivery.specs.System.{Try, Fate, losing}
 use Rattle.delivery.specs.System.Fate.{goes, stays, lost}
 use Rattle.delivery.specs.Claim.{FewLosses, framesFor}
-use Rattle.delivery.proofs.Core.{AckFrame, Direction, withSending, withAcks, heardTo, hearing}
+use Rattle.delivery.proofs.Core.{AckFrame, Direction, withSending, withAcks, heardTo, hearing, answerNoted}
 use Rattle.delivery.proofs.Count.{Spared, not-spared, losers-few, block-frames}
 use Rattle.delivery.proofs.Tries.{Says, Answers, Each, Rises, Due, Ghosts, BlockOf, OnItsWayOf, AnsweredOf, Stage, stage-as, Tried}
 use Rattle.delivery.proofs.Tries.Each.{each}
@@ -35,7 +34,7 @@ module _ {terms : Terms} {d : Direction} (v : Tried terms d) where
 
   -- ---- an Ack that shows what is acknowledged already
 
-  unmoved : (rest : List AckFrame) → Stage (resting rest) → Tried terms (withSending (resting rest) (d .sender) true (answerNoted near (d .history) NoChange))
+  unmoved : (rest : List AckFrame) → Stage (resting rest) → Tried terms (withSending (resting rest) (d .sender) true (answerNoted (d .history) NoChange))
   unmoved rest stage =
       record {
         steady = steady-with v (d .sender .hold) (v .steady .hold′);
@@ -82,7 +81,7 @@ module _ {terms : Terms} {d : Direction} (v : Tried terms d) where
         (omega (arith, losers-few (d .terms .repeats) (g .t) (d .history .losses) few, y .losing)) (omega (arith, y .handed, a .over .next′))
 
     -- the last block: the message is done
-    finished-tried : g .used ≡ framesOf (d .sender .length) → Tried terms (withSending (resting rest) (finished (d .sender) x pause) true (answerNoted near (d .history) Done))
+    finished-tried : g .used ≡ framesOf (d .sender .length) → Tried terms (withSending (resting rest) (finished (d .sender) x pause) true (answerNoted (d .history) Done))
     finished-tried whole =
         record {
           steady = steady-with v pause none;
@@ -123,7 +122,7 @@ module _ {terms : Terms} {d : Direction} (v : Tried terms d) where
 
     -- the message goes on: in the block, or with the next one
     abbrev onward : Direction
-    onward = withSending (resting rest) (acknowledged (d .sender) x pause) true (answerNoted near (d .history) Good)
+    onward = withSending (resting rest) (acknowledged (d .sender) x pause) true (answerNoted (d .history) Good)
 
     resumed : (end : ℕ) (repeats : ℕ) (t : Try) → d .sender .acked + x < end → t .turn ≡ d .history .turns
         → OnItsWayOf (record { start = g .start; used = g .used; end = end; repeats = repeats; t = t }) (d .sender .acked + x) onward
@@ -250,7 +249,7 @@ module _ {terms : Terms} {d : Direction} (v : Tried terms d) where
     ack-stays e (shows-new g b a (each p r)) =
         heard-new few g 0 b a (d .acks) (subst (Each (Answers (d .receiver .at .expected) (g .t))) (sym e) (each p r)) (f .ready) (f .number) (p .says .ready) (p .says .number′)
 
-  ack-lost : {f : AckFrame} {l : List AckFrame} → First f l → Stage (withAcks d l (losing (d .history) (f .try)))
+  ack-lost : {f : AckFrame} {l : List AckFrame} → First f l → Stage (withAcks d l (losing (d .history) true (f .try)))
   ack-lost {f} (shows-old s p) = stage-lost (f .try) s
   ack-lost {f} (shows-new g b a (each p r)) =
       answered g 0 (block-lost (f .try) b)

@@ -1,6 +1,7 @@
 -- What the links keep of a try: rows of frames, and Acks.
 use Prim.Native.Nat.{ℕ, _+_, _≤_}
 use native.Mathlib.Omega.{arith}
+use mathlib.Core.Bool.{true}
 use mathlib.Core.List.{List, [], _∷_, _++_}
 use mathlib.Core.Path.{_≡_, refl}
 use lib.ListN.{length}
@@ -106,7 +107,7 @@ block-lost {g = g} {losses = losses} l b =
     }
 
 -- a stage whose losses are one more, with the links as they are
-pub stage-lost : {d : Direction} (l : Try) → Stage d → Stage (withAcks d (d .acks) (losing (d .history) l))
+pub stage-lost : {d : Direction} (l : Try) → Stage d → Stage (withAcks d (d .acks) (losing (d .history) true l))
 stage-lost l (vacant t q) = vacant t q
 stage-lost {d} l (answered g old b a) =
     answered g old (block-lost l b)
@@ -118,6 +119,6 @@ stage-lost {d} l (onItsWay g from b o) =
     less : Spared (g .t) (l ∷ d .history .losses) → Spared (g .t) (d .history .losses)
     less = spared-more (g .t) l (d .history .losses)
 
-    pace : PaceOf g from d → PaceOf g from (withAcks d (d .acks) (losing (d .history) l))
+    pace : PaceOf g from d → PaceOf g from (withAcks d (d .acks) (losing (d .history) true l))
     pace (sending p) = sending p
     pace (awaiting p h) = awaiting p (λ s. h (less s))

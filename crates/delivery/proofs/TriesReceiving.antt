@@ -364,14 +364,14 @@ TakenBefore r l lost = Unit {0}
 
 module _ {terms : Terms} {d : Direction} (v : Tried terms d) where
   -- the first frame is lost: one that is left of a try before, or one of the running try
-  frame-lost : (f : DataFrame) (l : List DataFrame) → d .frames ≡ f ∷ l → Stage d → Stage (withFrames d l (losing (d .history) (f .try)))
+  frame-lost : (f : DataFrame) (l : List DataFrame) → d .frames ≡ f ∷ l → Stage d → Stage (withFrames d l (losing (d .history) true (f .try)))
   frame-lost f l e (vacant t q) = go (subst (Leftover (d .receiver .at .expected) t) e (q .link′))
     where
-      go : {l : List DataFrame} → Leftover (d .receiver .at .expected) t (f ∷ l) → Stage (withFrames d l (losing (d .history) (f .try)))
+      go : {l : List DataFrame} → Leftover (d .receiver .at .expected) t (f ∷ l) → Stage (withFrames d l (losing (d .history) true (f .try)))
       go (one h x) = vacant t (record { nothing = q .nothing; link′ = none; acks′ = q .acks′; due = q .due })
   frame-lost f l e (answered g old b a) = go (subst (Leftover (d .receiver .at .expected) (g .t)) e (a .link′))
     where
-      go : {l : List DataFrame} → Leftover (d .receiver .at .expected) (g .t) (f ∷ l) → Stage (withFrames d l (losing (d .history) (f .try)))
+      go : {l : List DataFrame} → Leftover (d .receiver .at .expected) (g .t) (f ∷ l) → Stage (withFrames d l (losing (d .history) true (f .try)))
       go (one h x) =
           stage-lost {d = withFrames d [] (d .history)} (f .try)
           (answered g old b (record { over = a .over; link′ = none; acks′ = a .acks′; due = a .due; asker = a .asker; whole = a .whole }))
@@ -380,11 +380,11 @@ module _ {terms : Terms} {d : Direction} (v : Tried terms d) where
       gone : f .try ≡ g .t → Spared (g .t) (f .try ∷ d .history .losses) → ⊥
       gone x s = not-spared (g .t) (d .history .losses) (subst (λ y. Spared (g .t) (y ∷ d .history .losses)) x s)
 
-      pace : f .try ≡ g .t → PaceOf g from d → PaceOf g from (withFrames d l (losing (d .history) (f .try)))
+      pace : f .try ≡ g .t → PaceOf g from d → PaceOf g from (withFrames d l (losing (d .history) true (f .try)))
       pace x (sending y) = sending y
       pace x (awaiting y h) = awaiting y (λ s. absurd (gone x s))
 
-      go : {l : List DataFrame} → LineOf g from d (f ∷ l) → Stage (withFrames d l (losing (d .history) (f .try)))
+      go : {l : List DataFrame} → LineOf g from d (f ∷ l) → Stage (withFrames d l (losing (d .history) true (f .try)))
       go {l} (behind z h r) =
           stage-lost {d = withFrames d l (d .history)} (f .try)
           (onItsWay g from b (record { least = o .least; reached = o .reached; pace = o .pace; link′ = alone r; acks′ = o .acks′; due = o .due }))

@@ -25,10 +25,9 @@ use Rattle.sender.proofs.Offers.{OfferCase, unfinished, no-bytes, too-long, acc
 use Rattle.sender.proofs.Time.{TimeCase, no-wait, runs-on, wait-used-up, sends-again, timeCase, passed-quiet}
 use Rattle.sender.proofs.Frames.{FrameCase, none-due, other-length, frame-out, frameCase}
 use Rattle.channel.specs.declared.Answer.the-variants.{Good}
-use Rattle.delivery.specs.System.{Try, accepting, answerNoted, lent}
-use Rattle.delivery.specs.System.Side.{near}
+use Rattle.delivery.specs.System.{Try, lent}
 use Rattle.delivery.specs.Claim.{FewLosses, framesFor}
-use Rattle.delivery.proofs.Core.{Direction, withSending, withFrame, offeredTo, passedTo, handedTo, frameNow, tryNow}
+use Rattle.delivery.proofs.Core.{Direction, withSending, withFrame, offeredTo, passedTo, handedTo, frameNow, tryNow, accepting, answerNoted}
 use Rattle.delivery.proofs.Count.{Spared, nextTry, losers-few, losers-next, frames-of, frames-other}
 use Rattle.delivery.proofs.Tries.{Sends, Row, Says, Each, Due, Ghosts, Tally, Early, Pace, VacantOf, BlockOf, OverOf, PaceOf, LineOf, OnItsWayOf, AnsweredOf, Stage, Steady, Tried}
 use Rattle.delivery.proofs.Tries.Row.{over}
@@ -79,7 +78,7 @@ module _ {terms : Terms} {d : Direction} (v : Tried terms d) where
   -- ---- time
 
   -- the sender changed, with nothing said that the history counts
-  sender-tried : (s : Sender) → s .hold ≡ 0 → Stage (withSending d s true (answerNoted near (d .history) Good)) → Tried terms (withSending d s true (answerNoted near (d .history) Good))
+  sender-tried : (s : Sender) → s .hold ≡ 0 → Stage (withSending d s true (answerNoted (d .history) Good)) → Tried terms (withSending d s true (answerNoted (d .history) Good))
   sender-tried s hold stage = record { steady = steady-with (s .hold) hold; room = v .room; bounded = v .bounded; stage = stage }
 
   -- with the links empty and no Ack due, the try has lost a frame: one on its way, or the Ack
@@ -97,7 +96,7 @@ module _ {terms : Terms} {d : Direction} (v : Tried terms d) where
   -- then the block is sent again
   again-tried : (g : Ghosts) (pause gap : ℕ) → pause ≡ 0 → BlockOf g d → OverOf g d → (Spared (g .t) (d .history .losses) → ⊥)
       → d .frames ≡ [] → d .acks ≡ [] → d .receiver .ack .due ≡ false
-      → Tried terms (withSending d (again (d .sender) pause gap) true (answerNoted near (d .history) Good))
+      → Tried terms (withSending d (again (d .sender) pause gap) true (answerNoted (d .history) Good))
   again-tried g pause gap p b o lost f a u =
       let w = b .window in
       let n = d .sender .acked in
@@ -124,7 +123,7 @@ module _ {terms : Terms} {d : Direction} (v : Tried terms d) where
       (inTime : 1 ≤ d .sender .wait → d .sender .wait ≤ n → (d .frames ≡ []) × (d .acks ≡ []) × (d .receiver .ack .due ≡ false)) where
     -- the timers with less
     abbrev less : Direction
-    less = withSending d (later (d .sender) n) true (answerNoted near (d .history) Good)
+    less = withSending d (later (d .sender) n) true (answerNoted (d .history) Good)
 
     less-tried : Stage less → Tried terms less
     less-tried = sender-tried (later (d .sender) n) (let h = v .steady .hold′ in omega arith)

@@ -11,54 +11,75 @@ use Rattle.telegram.specs.Kinds.{sorted}
 use Rattle.telegram.specs.Cutting.{framesOf}
 use Rattle.sender.specs.Sending.{fresh as freshSender}
 use Rattle.receiver.specs.Receiving.{waiting, fresh as freshReceiver}
+use Rattle.channel.specs.declared.Channel.{Channel}
 use Rattle.channel.specs.Opened.{noneOut, testDue, due as dueOf}
-use Rattle.delivery.specs.System.{System, End, Flying, Try, History, Call, endOf, linkTo, other, lent, isData, step, run}
+use Rattle.delivery.specs.End.{End}
+use Rattle.delivery.specs.System.{Party, Flying, Try, History, System, Act, Call, turned, lent, isData, step, run}
 use Rattle.delivery.specs.System.Side.{near, far}
 use Rattle.delivery.specs.System.Fate.{goes, stays, lost}
-use Rattle.delivery.specs.System.Call.{send, take as takes, time, due, arrive}
+use Rattle.delivery.specs.System.Act.{send, take as takes, time, due, arrive}
+use Rattle.delivery.specs.System.Call.{at}
+
+-- the channel of an end
+abbrev pub channelOf : {E : End} → Party E → Channel
+channelOf {E} p = E .channel (p .state)
 
 -- ---- along a list of calls
 
 -- something holds of every system on the way, the first and the last too
-abbrev pub Always : (limit : ℕ) → (System → Type 0) → System → List Call → Type 0
-Always limit P s [] = P s
-Always limit P s (c ∷ cs) = P s × Always limit P (step limit s c) cs
+abbrev pub Always : {N F : End} → (System N F → Type 0) → System N F → List Call → Type 0
+Always P s [] = P s
+Always P s (c ∷ cs) = P s × Always P (step s c) cs
 
 -- something holds of every call, in the system that it meets
-abbrev pub Along : (limit : ℕ) → (System → Call → Type 0) → System → List Call → Type 0
-Along limit P s [] = Unit {0}
-Along limit P s (c ∷ cs) = P s c × Along limit P (step limit s c) cs
+abbrev pub Along : {N F : End} → (System N F → Call → Type 0) → System N F → List Call → Type 0
+Along P s [] = Unit {0}
+Along P s (c ∷ cs) = P s c × Along P (step s c) cs
 
 -- ---- what is assumed
 
--- "Fresh": sender and receiver as the A1 leaves them, nothing due, no test out, settings that 01 allows; the interval may stand anywhere
-pub record FreshEnd (e : End) : Type 0 where
-  pub sender : e .channel .sender ≡ freshSender
-  pub receiver : e .channel .receiver ≡ freshReceiver
-  pub tests : e .channel .tests ≡ noneOut (e .channel .tests .interval)
-  pub accept : e .channel .accept ≡ false
-  pub t1 : 1 ≤ e .channel .parameters .terms .t1
-  pub «t_wait» : 1 ≤ e .channel .parameters .terms .«t_wait»
-  pub live : e .live ≡ true
+-- "Fresh": open, sender and receiver as the A1 leaves them, nothing due, no test out, settings that 01 allows; the interval may stand anywhere
+pub record FreshEnd {E : End} (p : Party E) : Type 0 where
+  pub open′ : E .open′ (p .state) ≡ true
+  pub sender : channelOf p .sender ≡ freshSender
+  pub receiver : channelOf p .receiver ≡ freshReceiver
+  pub tests : channelOf p .tests ≡ noneOut (channelOf p .tests .interval)
+  pub accept : channelOf p .accept ≡ false
+  pub t1 : 1 ≤ channelOf p .parameters .terms .t1
+  pub «t_wait» : 1 ≤ channelOf p .parameters .terms .«t_wait»
 
 -- nothing has happened yet
 abbrev pub noHistory : Try → History
-noHistory t = record { accepted = []; handedOut = []; done = 0; givenUp = false; frames = []; turns = 0; ackTry = t; losses = [] }
+noHistory t =
+    record { accepted = []; complete = []; handedOut = []; done = 0; eight = false; frames = []; turns = 0; ackTry = t; losses = [] }
 
--- "two fresh ends of one connection, block size 1 to 15, both links empty"
-pub record Fresh (s : System) : Type 0 where
+-- "two fresh ends of one connection, block size 1 to 15, both links empty"; each end's transmit ID is the other's receive ID
+pub record Fresh {N F : End} (s : System N F) : Type 0 where
   pub near : FreshEnd (s .near)
   pub far : FreshEnd (s .far)
-  pub agreed : s .far .channel .parameters .terms .block ≡ s .near .channel .parameters .terms .block
-  pub least : 1 ≤ s .near .channel .parameters .terms .block
-  pub most : s .near .channel .parameters .terms .block ≤ 15
+  pub to-far : N .transmits (s .near .state) ≡ F .receives (s .far .state)
+  pub to-near : F .transmits (s .far .state) ≡ N .receives (s .near .state)
+  pub agreed : channelOf (s .far) .parameters .terms .block ≡ channelOf (s .near) .parameters .terms .block
+  pub least : 1 ≤ channelOf (s .near) .parameters .terms .block
+  pub most : channelOf (s .near) .parameters .terms .block ≤ 15
   pub forward : s .forward ≡ []
   pub backward : s .backward ≡ []
-  pub history : s .history ≡ noHistory (s .history .ackTry)
+  pub forth : s .forth ≡ noHistory (s .forth .ackTry)
+  pub back : s .back ≡ noHistory (s .back .ackTry)
+
+-- "Send comes at the sending end only": the near one
+abbrev pub SendsNear : List Call → Type 0
+SendsNear [] = Unit {0}
+SendsNear (at far (send m) ∷ cs) = ⊥
+SendsNear (at far takes ∷ cs) = SendsNear cs
+SendsNear (at far (time n) ∷ cs) = SendsNear cs
+SendsNear (at far due ∷ cs) = SendsNear cs
+SendsNear (at far (arrive fate) ∷ cs) = SendsNear cs
+SendsNear (at near a ∷ cs) = SendsNear cs
 
 -- "no test falls due", at either end
-abbrev pub NoTest : System → Type 0
-NoTest s = (testDue (s .near .channel) ≡ false) × (testDue (s .far .channel) ≡ false)
+abbrev pub NoTest : {N F : End} → System N F → Type 0
+NoTest s = (testDue (channelOf (s .near)) ≡ false) × (testDue (channelOf (s .far)) ≡ false)
 
 -- each message is at most so long
 abbrev pub Within : ℕ → List (List ℕ) → Type 0
@@ -66,74 +87,84 @@ Within room [] = Unit {0}
 Within room (m ∷ ms) = (length m ≤ room) × Within room ms
 
 -- "Roomy": the receiving end's buffer holds every message accepted
-abbrev pub Roomy : System → System → Type 0
-Roomy s t = Within (length (s .far .buffer)) (t .history .accepted)
+abbrev pub Roomy : {N F : End} → System N F → System N F → Type 0
+Roomy s t = Within (length (s .far .buffer)) (t .forth .accepted)
 
 -- ---- the first half
 
--- one message given up, after every continuation of the list: "handed out whole or no part of it ever is"
-abbrev pub WholeOrNever : (limit : ℕ) → System → Type 0
-WholeOrNever limit s =
-    (cs : List Call) → Always limit NoTest s cs →
-    (length (run limit s cs .history .handedOut) ≤ s .history .done) ⊎ (run limit s cs .history .handedOut ≡ s .history .accepted)
+-- "handed out whole or no part of it ever is": the last message accepted, which is not done, after a list of calls
+abbrev pub WholeOrNone : {N F : End} → System N F → List Call → Type 0
+WholeOrNone s cs = (length (run s cs .forth .handedOut) ≤ s .forth .done) ⊎ (run s cs .forth .handedOut ≡ s .forth .accepted)
 
 -- the first half: what holds after every list of calls
-pub record Delivered (limit : ℕ) (s : System) : Type 0 where
+pub record Delivered {N F : End} (s : System N F) : Type 0 where
   -- "the messages handed out are the first so many accepted, in order, once, byte for byte"
-  pub inOrder : s .history .handedOut ≡ take (length (s .history .handedOut)) (s .history .accepted)
+  pub inOrder : s .forth .handedOut ≡ take (length (s .forth .handedOut)) (s .forth .accepted)
   -- "each reported done is handed out, or a take would hand it out now"
   pub done :
-      (i : ℕ) → i < s .history .done →
-      (i < length (s .history .handedOut)) ⊎ ((length (s .history .handedOut) ≡ i) × (step limit s (takes far) .history .handedOut ≡ s .history .handedOut ++ (getD (s .history .accepted) i [] ∷ [])))
+      (i : ℕ) → i < s .forth .done →
+      (i < length (s .forth .handedOut)) ⊎ ((length (s .forth .handedOut) ≡ i) × (step s (at far takes) .forth .handedOut ≡ s .forth .handedOut ++ (getD (s .forth .accepted) i [] ∷ [])))
   -- "given up": 8 was answered before the last message accepted was done
-  pub givenUp : s .history .givenUp ≡ true → (length (s .history .accepted) ≡ s .history .done + 1) × WholeOrNever limit s
+  pub givenUp :
+      s .forth .eight ≡ true →
+      (length (s .forth .accepted) ≡ s .forth .done + 1) × ((cs : List Call) → SendsNear cs → Always NoTest s cs → WholeOrNone s cs)
   -- the receiving end stays open
-  pub open′ : s .far .live ≡ true
+  pub open′ : F .open′ (s .far .state) ≡ true
+  -- a take at the sending end shows nothing
+  pub none-back : s .back .handedOut ≡ []
 
 -- ---- the second half
 
 -- a wait for an Ack runs out in n tenths
-abbrev pub RunsOut : End → ℕ → Type 0
-RunsOut e n = (e .live ≡ true) × (0 < e .channel .sender .wait) × (e .channel .sender .wait ≤ n)
+abbrev pub RunsOut : {E : End} → Party E → ℕ → Type 0
+RunsOut {E} p n = (E .open′ (p .state) ≡ true) × (0 < channelOf p .sender .wait) × (channelOf p .sender .wait ≤ n)
+
+-- at the near end: a wait that runs out finds both links empty, and no Ack due at the other end
+abbrev pub NearInTime : {N F : End} → System N F → Act → Type 0
+NearInTime s (time n) = RunsOut (s .near) n → (s .forward ≡ []) × (s .backward ≡ []) × (channelOf (s .far) .receiver .ack .due ≡ false)
+NearInTime s (send m) = Unit {0}
+NearInTime s takes = Unit {0}
+NearInTime s due = Unit {0}
+NearInTime s (arrive fate) = Unit {0}
 
 -- "In time": no wait runs out while a link holds a frame or the far end has an Ack due
-abbrev pub InTime : System → Call → Type 0
-InTime s (time side n) =
-    RunsOut (endOf side s) n →
-    (s .forward ≡ []) × (s .backward ≡ []) × (endOf (other side) s .channel .receiver .ack .due ≡ false)
-InTime s (send m) = Unit {0}
-InTime s (takes side) = Unit {0}
-InTime s (due side) = Unit {0}
-InTime s (arrive side fate) = Unit {0}
+abbrev pub InTime : {N F : End} → System N F → Call → Type 0
+InTime s (at near a) = NearInTime s a
+InTime s (at far a) = NearInTime (turned s) a
 
 -- no data frame comes to an end, copies and refused ones too, while a complete message waits untaken there
-abbrev pub NoneWaits : End → List Flying → Type 0
-NoneWaits e [] = Unit {0}
-NoneWaits e (f ∷ rest) = isData (sorted (f .bytes) .kind) ≡ true → waiting (e .channel .receiver) ≡ false
+abbrev pub NoneWaits : {E : End} → Party E → List Flying → Type 0
+NoneWaits p [] = Unit {0}
+NoneWaits p (f ∷ rest) = isData (sorted (f .bytes) .kind) ≡ true → waiting (channelOf p .receiver) ≡ false
+
+-- the same of what is called at the near end
+abbrev pub NearTakenFirst : {N F : End} → System N F → Act → Type 0
+NearTakenFirst s (arrive goes) = NoneWaits (s .near) (s .backward)
+NearTakenFirst s (arrive stays) = NoneWaits (s .near) (s .backward)
+NearTakenFirst s (arrive lost) = Unit {0}
+NearTakenFirst s (send m) = Unit {0}
+NearTakenFirst s takes = Unit {0}
+NearTakenFirst s due = Unit {0}
+NearTakenFirst s (time n) = Unit {0}
 
 -- "each message is taken before another data frame arrives"
-abbrev pub TakenFirst : System → Call → Type 0
-TakenFirst s (arrive side goes) = NoneWaits (endOf side s) (linkTo side s)
-TakenFirst s (arrive side stays) = NoneWaits (endOf side s) (linkTo side s)
-TakenFirst s (arrive side lost) = Unit {0}
-TakenFirst s (send m) = Unit {0}
-TakenFirst s (takes side) = Unit {0}
-TakenFirst s (due side) = Unit {0}
-TakenFirst s (time side n) = Unit {0}
+abbrev pub TakenFirst : {N F : End} → System N F → Call → Type 0
+TakenFirst s (at near a) = NearTakenFirst s a
+TakenFirst s (at far a) = NearTakenFirst (turned s) a
 
 -- nothing due, no wait, hold or T3 running
-pub record Resting (e : End) (m : List ℕ) : Type 0 where
-  pub nothing : dueOf (e .channel) m .given ≡ false
-  pub wait : e .channel .sender .wait ≡ 0
-  pub hold : e .channel .sender .hold ≡ 0
-  pub gap : e .channel .sender .gap ≡ 0
+pub record Resting (c : Channel) (m : List ℕ) : Type 0 where
+  pub nothing : dueOf c m .given ≡ false
+  pub wait : c .sender .wait ≡ 0
+  pub hold : c .sender .hold ≡ 0
+  pub gap : c .sender .gap ≡ 0
 
 -- "At rest": links empty, nothing due, no wait, hold or T3 running
-pub record AtRest (s : System) : Type 0 where
+pub record AtRest {N F : End} (s : System N F) : Type 0 where
   pub forward : s .forward ≡ []
   pub backward : s .backward ≡ []
-  pub near : Resting (s .near) (lent (s .history))
-  pub far : Resting (s .far) (lent (s .history))
+  pub near : Resting (channelOf (s .near)) (lent (s .forth))
+  pub far : Resting (channelOf (s .far)) (lent (s .back))
 
 -- the tries of a message's block, by their turns
 abbrev pub turnsOf : (message block : ℕ) → List Try → List ℕ
@@ -169,20 +200,20 @@ pub record AllDone (repeats : ℕ) (h : History) : Type 0 where
 
 -- ---- demand 3, one claim about the whole list
 
--- the limit on lengths is what two length bytes can say at most
-pub record Demand3 (limit : ℕ) (s : System) (cs : List Call) : Type 0 where
-  pub first : Always limit NoTest s cs → Roomy s (run limit s cs) → Delivered limit (run limit s cs)
+-- how often the near end may repeat
+abbrev pub repeatsOf : {N F : End} → System N F → ℕ
+repeatsOf s = channelOf (s .near) .parameters .terms .repeats
+
+pub record Demand3 {N F : End} (s : System N F) (cs : List Call) : Type 0 where
+  pub first : Always NoTest s cs → Roomy s (run s cs) → Delivered (run s cs)
   pub second :
-      Always limit NoTest s cs → Roomy s (run limit s cs) →
-      Along limit InTime s cs → Along limit TakenFirst s cs → AtRest (run limit s cs) →
-      FewLosses (s .near .channel .parameters .terms .repeats) (run limit s cs .history .losses) →
-      AllDone (s .near .channel .parameters .terms .repeats) (run limit s cs .history)
+      Always NoTest s cs → Along InTime s cs → Along TakenFirst s cs → AtRest (run s cs) → FewLosses (repeatsOf s) (run s cs .forth .losses) →
+      AllDone (repeatsOf s) (run s cs .forth)
   -- with so few losses 8 is never answered, at rest or not
   pub stays :
-      Always limit NoTest s cs → Along limit InTime s cs → Along limit TakenFirst s cs →
-      FewLosses (s .near .channel .parameters .terms .repeats) (run limit s cs .history .losses) →
-      run limit s cs .near .live ≡ true
+      Always NoTest s cs → Along InTime s cs → Along TakenFirst s cs → FewLosses (repeatsOf s) (run s cs .forth .losses) →
+      N .open′ (run s cs .near .state) ≡ true
 
--- for every list of calls
-abbrev pub Demand3Holds : Type 0
-Demand3Holds = (limit : ℕ) → limit < 65536 → (s : System) → Fresh s → (cs : List Call) → Demand3 limit s cs
+-- for two such ends: every fresh start, and every list of calls in which the near one alone sends
+abbrev pub Demand3Holds : End → End → Type 0
+Demand3Holds N F = (s : System N F) → Fresh s → (cs : List Call) → SendsNear cs → Demand3 s cs

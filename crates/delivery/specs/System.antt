@@ -1,29 +1,21 @@
--- 01, "The lists of demand 3": two ends of one connection, the links between them, and what a list of calls does to them.
--- Each call runs the very definition that the code's contract is an equation with. History and tries stand beside the records and influence no call.
+-- 01, "The lists of demand 3", and 02, 14: two ends of one connection, the links between them, and what a list of calls does to them.
+-- The ends are any two (End.antt); send comes at either. History and tries stand beside the ends: of them a call sees only the message that due lends.
 use Prim.Native.Nat.{ℕ, _+_, _-_, _/_}
-use mathlib.Core.Bool.{Bool, true, false, not, _||_}
+use mathlib.Core.Bool.{Bool, true, false, _&&_, _||_}
 use mathlib.Core.List.{List, [], _∷_, _++_}
-use lib.ListN.{length, getD, drop}
+use lib.ListN.{length, getD, take as front}
 use lib.Dec.{eqb}
 use Rattle.laws.specs.If.{if_then_else_}
-use Rattle.telegram.specs.Outgoing.{bytesOf}
 use Rattle.telegram.specs.Kinds.{sorted}
 use Rattle.telegram.specs.declared.kinds.Telegram.{Telegram}
 use Rattle.telegram.specs.declared.kinds.Telegram.the-variants.{Data, Ack, Test, Break, Disconnect, Setup, Accept, Malformed}
-use Rattle.receiver.specs.Receiving.{took, shown}
-use Rattle.receiver.specs.declared.Taking.{Taking}
-use Rattle.receiver.specs.declared.Taking.the-variants.{Shown, NoneComplete, ShortBuffer}
 use Rattle.channel.specs.declared.Channel.{Channel}
-use Rattle.channel.specs.declared.Answer.{Answer}
-use Rattle.channel.specs.Numbers.{said, closes}
-use Rattle.channel.specs.Opened.{elapsed, withReceiver, due as dueOf, sent as sentBy}
-use Rattle.arrival.specs.Arrived.{arrived, bufferedBy}
+use Rattle.delivery.specs.End.{End}
 
--- one end: its channel, its one lent buffer, and whether it is open still
-pub record End : Type 0 where
-  pub channel : Channel
+-- "Each call gets record and buffer as its end's last call left them": an end's state, and its one lent buffer
+pub record Party (E : End) : Type 0 where
+  pub state : E .State
   pub buffer : List ℕ
-  pub live : Bool
 
 -- "Try": one run of sends up to the frame with AR, together with its Ack. It is named by the message, the block of it, and how many frames with AR were handed over before
 pub record Try : Type 0 where
@@ -33,37 +25,47 @@ pub record Try : Type 0 where
 
 -- a frame in a link, and the try that it belongs to
 pub record Flying : Type 0 where
+  pub id : ℕ
   pub bytes : List ℕ
   pub try : Try
 
--- what happened so far
+-- what happened so far in one direction, from a sending end to a receiving one
 pub record History : Type 0 where
   -- "Accepted": the messages whose send was answered 0, the first one first
   pub accepted : List (List ℕ)
+  -- the messages that were complete at the receiving end: an arrival made a take show them
+  pub complete : List (List ℕ)
   -- "Handed out": the messages shown by a take, the first one first
   pub handedOut : List (List ℕ)
   -- how many were reported done by the sending end
   pub done : ℕ
-  -- the sending end answered 8: the message in sending is given up
-  pub givenUp : Bool
+  -- the sending end answered 8
+  pub eight : Bool
   -- the try of each data frame handed over
   pub frames : List Try
   -- how many of those were frames with AR
   pub turns : ℕ
   -- the try of the frame that last asked the receiving end for an Ack
   pub ackTry : Try
-  -- the try of each frame that a link lost
+  -- the try of each frame that a link lost: data of this direction, and Acks for it
   pub losses : List Try
 
--- the sending end and the receiving end, the frames on their way to the far and to the near one, the first to arrive first, and the history
-pub record System : Type 0 where
-  pub near : End
-  pub far : End
+-- two ends, the frames on their way to the far and to the near one, the first to arrive first,
+-- and the history of what the near end sends (forth) and of what the far end sends (back)
+pub record System (N F : End) : Type 0 where
+  pub near : Party N
+  pub far : Party F
   pub forward : List Flying
   pub backward : List Flying
-  pub history : History
+  pub forth : History
+  pub back : History
 
--- the sending side and the receiving side
+-- the same two ends, seen from the other side
+abbrev pub turned : {N F : End} → System N F → System F N
+turned s =
+    record { near = s .far; far = s .near; forward = s .backward; backward = s .forward; forth = s .back; back = s .forth }
+
+-- the two sides
 pub data Side : Type 0 where
   near far : Side
 
@@ -71,77 +73,69 @@ pub data Side : Type 0 where
 pub data Fate : Type 0 where
   goes stays lost : Fate
 
--- the calls; send comes at the sending end only
+-- what is called at an end
+pub data Act : Type 0 where
+  send : List ℕ → Act
+  take : Act
+  time : ℕ → Act
+  due : Act
+  arrive : Fate → Act
+
+-- a call: at which side, and what
 pub data Call : Type 0 where
-  send : List ℕ → Call
-  take : Side → Call
-  time : Side → ℕ → Call
-  due : Side → Call
-  arrive : Side → Fate → Call
+  at : Side → Act → Call
 
--- ---- parts of a system
+-- ---- what the history notes
 
--- the end on a side
-abbrev pub endOf : Side → System → End
-endOf near s = s .near
-endOf far s = s .far
+-- a history with other messages
+abbrev pub withMessages : History → (accepted complete handedOut : List (List ℕ)) → (done : ℕ) → (eight : Bool) → History
+withMessages h a c o d e =
+    record {
+      accepted = a;
+      complete = c;
+      handedOut = o;
+      done = d;
+      eight = e;
+      frames = h .frames;
+      turns = h .turns;
+      ackTry = h .ackTry;
+      losses = h .losses;
+    }
 
--- a system with another end on a side
-abbrev pub withEnd : Side → System → End → System
-withEnd near s e = record { near = e; far = s .far; forward = s .forward; backward = s .backward; history = s .history }
-withEnd far s e = record { near = s .near; far = e; forward = s .forward; backward = s .backward; history = s .history }
-
--- the frames on their way to a side
-abbrev pub linkTo : Side → System → List Flying
-linkTo near s = s .backward
-linkTo far s = s .forward
-
--- a system with other frames on their way to a side
-abbrev pub withLinkTo : Side → System → List Flying → System
-withLinkTo near s l = record { near = s .near; far = s .far; forward = s .forward; backward = l; history = s .history }
-withLinkTo far s l = record { near = s .near; far = s .far; forward = l; backward = s .backward; history = s .history }
-
--- a system with another history
-abbrev pub withHistory : System → History → System
-withHistory s h = record { near = s .near; far = s .far; forward = s .forward; backward = s .backward; history = h }
-
--- the other side
-abbrev pub other : Side → Side
-other near = far
-other far = near
+-- a history with other tries
+abbrev pub withTries : History → (frames : List Try) → (turns : ℕ) → (ackTry : Try) → (losses : List Try) → History
+withTries h f n t l =
+    record {
+      accepted = h .accepted;
+      complete = h .complete;
+      handedOut = h .handedOut;
+      done = h .done;
+      eight = h .eight;
+      frames = f;
+      turns = n;
+      ackTry = t;
+      losses = l;
+    }
 
 -- "while sending, the very message accepted": the last one accepted is lent
 abbrev pub lent : History → List ℕ
 lent h = getD (h .accepted) (length (h .accepted) - 1) []
 
--- ---- what the history notes
-
--- a history with other messages
-abbrev pub withMessages : History → (accepted handedOut : List (List ℕ)) → (done : ℕ) → (givenUp : Bool) → History
-withMessages h a o d l =
-    record { accepted = a; handedOut = o; done = d; givenUp = l; frames = h .frames; turns = h .turns; ackTry = h .ackTry; losses = h .losses }
-
--- a history with other tries
-abbrev pub withTries : History → (frames : List Try) → (turns : ℕ) → (ackTry : Try) → (losses : List Try) → History
-withTries h f n t l =
-    record { accepted = h .accepted; handedOut = h .handedOut; done = h .done; givenUp = h .givenUp; frames = f; turns = n; ackTry = t; losses = l }
-
--- a message accepted
-abbrev pub accepting : History → List ℕ → History
-accepting h m = withMessages h (h .accepted ++ (m ∷ [])) (h .handedOut) (h .done) (h .givenUp)
+-- a message offered, and accepted where the answer is 0
+abbrev pub offering : History → List ℕ → (number : ℕ) → History
+offering h m n = withMessages h (if eqb n 0 then h .accepted ++ (m ∷ []) else h .accepted) (h .complete) (h .handedOut) (h .done) (h .eight)
 
 -- messages handed out
 abbrev pub handing : History → List (List ℕ) → History
-handing h ms = withMessages h (h .accepted) (h .handedOut ++ ms) (h .done) (h .givenUp)
+handing h ms = withMessages h (h .accepted) (h .complete) (h .handedOut ++ ms) (h .done) (h .eight)
+
+-- messages that are complete now
+abbrev pub completing : History → List (List ℕ) → History
+completing h ms = withMessages h (h .accepted) (h .complete ++ ms) (h .handedOut) (h .done) (h .eight)
 
 -- the sending end's answer: done, or 8
-abbrev pub noted : Side → History → (done givenUp : Bool) → History
-noted near h d l = withMessages h (h .accepted) (h .handedOut) (if d then h .done + 1 else h .done) (h .givenUp || l)
-noted far h d l = h
-
--- the same of a channel's answer
-abbrev pub answerNoted : Side → History → Answer → History
-answerNoted side h a = noted side h (said a .done) (eqb (said a .number) 8)
+abbrev pub noted : History → (done : Bool) → (number : ℕ) → History
+noted h d n = withMessages h (h .accepted) (h .complete) (h .handedOut) (if d then h .done + 1 else h .done) (h .eight || eqb n 8)
 
 -- the telegram is data
 abbrev pub isData : Telegram → Bool
@@ -165,100 +159,137 @@ asksAck (Setup p) = false
 asksAck (Accept p) = false
 asksAck Malformed = false
 
--- a frame with AR came to the receiving end: the Ack that it makes due belongs to its try
-abbrev pub asked : Side → History → Telegram → Try → History
-asked far h k t = if asksAck k then withTries h (h .frames) (h .turns) t (h .losses) else h
-asked near h k t = h
+-- it is an Ack
+abbrev pub isAck : Telegram → Bool
+isAck (Data asks last number) = false
+isAck (Ack ready number) = true
+isAck Test = false
+isAck Break = false
+isAck Disconnect = false
+isAck (Setup p) = false
+isAck (Accept p) = false
+isAck Malformed = false
+
+-- a frame with AR came to an open end: the Ack that it makes due belongs to its try
+abbrev pub asked : History → (open′ : Bool) → Telegram → Try → History
+asked h o k t = withTries h (h .frames) (h .turns) (if o && asksAck k then t else h .ackTry) (h .losses)
 
 -- the try of a frame that is handed over: of data by the frame that was next, of an Ack that of the frame that asked for it
-abbrev pub tryOf : History → Channel → Telegram → Try
-tryOf h c k =
+abbrev pub tryOf : (out incoming : History) → Channel → Telegram → Try
+tryOf h i c k =
     if isData k then record { message = length (h .accepted) - 1; block = c .sender .next / c .parameters .terms .block; turn = h .turns }
-    else h .ackTry
+    else i .ackTry
 
 -- a frame handed over: data is counted for its try, and one with AR ends that try's sends
-abbrev pub counted : History → Channel → Telegram → History
-counted h c k =
-    if isData k then withTries h (tryOf h c k ∷ h .frames) (if asksAck k then h .turns + 1 else h .turns) (h .ackTry) (h .losses) else h
+abbrev pub counted : History → (given : Bool) → Telegram → Try → History
+counted h g k t =
+    withTries h (if g && isData k then t ∷ h .frames else h .frames) (if g && asksAck k then h .turns + 1 else h .turns) (h .ackTry) (h .losses)
 
--- a frame lost by a link, whenever that happens, is a loss of its own try; so is a copy that arrived and stayed before
-abbrev pub losing : History → Try → History
-losing h t = withTries h (h .frames) (h .turns) (h .ackTry) (t ∷ h .losses)
+-- a frame lost by a link, whenever that happens, is a loss of its own try; so is a copy that arrived and stayed before.
+-- Data counts for the direction that it goes, an Ack for the one that it answers, a test or an A1 for none
+abbrev pub losing : History → (counts : Bool) → Try → History
+losing h c t = withTries h (h .frames) (h .turns) (h .ackTry) (if c then t ∷ h .losses else h .losses)
 
--- ---- the calls
+-- ---- the calls, at the near end
 
--- what a call leaves of an end; 8 and a disconnect close it
-abbrev pub endAfter : Channel → List ℕ → Answer → End
-endAfter c b a = record { channel = c; buffer = b; live = not (closes a) }
+-- what a take shows: the front of the lent buffer where its answer is 0
+abbrev pub shownAt : {E : End} → Party E → List (List ℕ)
+shownAt {E} p = (let t = E .take (p .state) (length (p .buffer)) in if eqb (t .number) 0 then front (t .shown) (p .buffer) ∷ [] else [])
 
--- send, at the sending end
-unfoldable pub sending : (limit : ℕ) → System → List ℕ → System
-sending limit s m =
-    (let r = sentBy limit (s .near .channel) (length m) in
-    let t = withEnd near s (endAfter (r .channel) (s .near .buffer) (r .answer)) in
-    if eqb (said (r .answer) .number) 0 then withHistory t (accepting (s .history) m) else t)
+-- what an arrival made complete: what a take shows after it, if one before it showed nothing
+abbrev pub newly : (before after : List (List ℕ)) → List (List ℕ)
+newly [] after = after
+newly (m ∷ ms) after = []
 
--- what a take shows
-abbrev pub shownBy : Taking → List ℕ → List (List ℕ)
-shownBy Shown m = m ∷ []
-shownBy NoneComplete m = []
-shownBy ShortBuffer m = []
+module _ {N F : End} where
+  -- what a call leaves that touches no link
+  abbrev pub after : System N F → Party N → (forth back : History) → System N F
+  after s p h k = record { near = p; far = s .far; forward = s .forward; backward = s .backward; forth = h; back = k }
 
--- take
-unfoldable pub taking : Side → System → System
-taking side s =
-    (let e = endOf side s in
-    let t = took (e .channel .receiver) (length (e .buffer)) in
-    withHistory (withEnd side s (record { channel = withReceiver (e .channel) (t .receiver); buffer = e .buffer; live = e .live }))
-    (handing (s .history) (shownBy (t .note) (shown (e .channel .receiver) (e .buffer)))))
+  -- send
+  unfoldable pub sending : System N F → List ℕ → System N F
+  sending s m =
+      (let r = N .send (s .near .state) (length m) in
+      after s (record { state = r .state; buffer = s .near .buffer }) (offering (s .forth) m (r .number)) (s .back))
 
--- time has passed
-unfoldable pub timing : Side → System → ℕ → System
-timing side s n =
-    (let e = endOf side s in
-    let r = elapsed (e .channel) n in
-    withHistory (withEnd side s (endAfter (r .channel) (e .buffer) (r .answer))) (answerNoted side (s .history) (r .answer)))
+  -- take
+  unfoldable pub taking : System N F → System N F
+  taking s =
+      (let r = N .take (s .near .state) (length (s .near .buffer)) in
+      after s (record { state = r .state; buffer = s .near .buffer }) (s .forth) (handing (s .back) (shownAt (s .near))))
 
--- what is due: a frame handed over goes last into the link to the other end
-unfoldable pub asking : Side → System → System
-asking side s =
-    (let e = endOf side s in
-    let d = dueOf (e .channel) (lent (s .history)) in
-    let k = sorted (bytesOf (d .payload)) .kind in
-    let f : Flying = record { bytes = bytesOf (d .payload); try = tryOf (s .history) (e .channel) k } in
-    let t = withEnd side s (endAfter (d .channel) (e .buffer) (d .answer)) in
-    if d .given then withHistory (withLinkTo (other side) t (linkTo (other side) s ++ (f ∷ []))) (counted (s .history) (e .channel) k) else t)
+  -- time has passed
+  unfoldable pub timing : System N F → ℕ → System N F
+  timing s n =
+      (let r = N .time (s .near .state) n in
+      after s (record { state = r .state; buffer = s .near .buffer }) (noted (s .forth) (r .done) (r .number)) (s .back))
 
--- a frame arrives at an end, lent its buffer
-unfoldable pub arriving : (limit : ℕ) → Side → System → Flying → System
-arriving limit side s f =
-    (let e = endOf side s in
-    let k = sorted (f .bytes) .kind in
-    let r = arrived limit (e .channel) k (drop 1 (f .bytes)) (length (e .buffer)) in
-    let b = bufferedBy limit (e .channel) k (drop 1 (f .bytes)) (e .buffer) in
-    withHistory (withEnd side s (endAfter (r .channel) b (r .answer)))
-    (asked side (answerNoted side (s .history) (r .answer)) k (f .try)))
+  -- what is due: a frame handed over goes last into the link to the other end
+  unfoldable pub asking : System N F → System N F
+  asking s =
+      (let d = N .due (s .near .state) (lent (s .forth)) in
+      let k = sorted (d .bytes) .kind in
+      let t = tryOf (s .forth) (s .back) (N .channel (s .near .state)) k in
+      record {
+        near = record { state = d .state; buffer = s .near .buffer };
+        far = s .far;
+        forward = if d .given then s .forward ++ (record { id = d .id; bytes = d .bytes; try = t } ∷ []) else s .forward;
+        backward = s .backward;
+        forth = counted (s .forth) (d .given) k t;
+        back = s .back;
+      })
 
--- at an end that is closed nothing more happens
-abbrev pub ifLive : Side → System → System → System
-ifLive side s t = if endOf side s .live then t else s
+  -- a frame arrives, lent the buffer, and that link is left
+  unfoldable pub arriving : System N F → Flying → (backward : List Flying) → System N F
+  arriving s f l =
+      (let r = N .arrive (s .near .state) (f .id) (f .bytes) (length (s .near .buffer)) in
+      let k = sorted (f .bytes) .kind in
+      let met : Party N = record { state = r .state; buffer = N .buffered (s .near .state) (f .id) (f .bytes) (s .near .buffer) } in
+      record {
+        near = met;
+        far = s .far;
+        forward = s .forward;
+        backward = l;
+        forth = noted (s .forth) (r .done) (r .number);
+        back = completing (asked (s .back) (N .open′ (s .near .state)) k (f .try)) (newly (shownAt (s .near)) (shownAt met));
+      })
 
--- the first frame of a link, by its fate; with an empty link nothing happens
-abbrev pub meeting : (limit : ℕ) → Side → Fate → List Flying → System → System
-meeting limit side fate [] s = s
-meeting limit side goes (f ∷ rest) s = ifLive side (withLinkTo side s rest) (arriving limit side (withLinkTo side s rest) f)
-meeting limit side stays (f ∷ rest) s = ifLive side s (arriving limit side s f)
-meeting limit side lost (f ∷ rest) s = withHistory (withLinkTo side s rest) (losing (s .history) (f .try))
+  -- the first frame of the link is lost
+  unfoldable pub missing : System N F → Flying → (backward : List Flying) → System N F
+  missing s f l =
+      (let k = sorted (f .bytes) .kind in
+      record {
+        near = s .near;
+        far = s .far;
+        forward = s .forward;
+        backward = l;
+        forth = losing (s .forth) (isAck k) (f .try);
+        back = losing (s .back) (isData k) (f .try);
+      })
 
--- one call
-abbrev pub step : (limit : ℕ) → System → Call → System
-step limit s (send m) = ifLive near s (sending limit s m)
-step limit s (take side) = ifLive side s (taking side s)
-step limit s (time side n) = ifLive side s (timing side s n)
-step limit s (due side) = ifLive side s (asking side s)
-step limit s (arrive side fate) = meeting limit side fate (linkTo side s) s
+  -- the first frame of the link, by its fate; with an empty link nothing happens
+  abbrev pub meeting : Fate → List Flying → System N F → System N F
+  meeting fate [] s = s
+  meeting goes (f ∷ rest) s = arriving s f rest
+  meeting stays (f ∷ rest) s = arriving s f (f ∷ rest)
+  meeting lost (f ∷ rest) s = missing s f rest
+
+  -- one call at the near end
+  abbrev pub act : System N F → Act → System N F
+  act s (send m) = sending s m
+  act s take = taking s
+  act s (time n) = timing s n
+  act s due = asking s
+  act s (arrive fate) = meeting fate (s .backward) s
+
+-- ---- lists of calls
+
+-- one call; at the far end it is the call of the system seen from there
+abbrev pub step : {N F : End} → System N F → Call → System N F
+step s (at near a) = act s a
+step s (at far a) = turned (act (turned s) a)
 
 -- a list of calls
-abbrev pub run : (limit : ℕ) → System → List Call → System
-run limit s [] = s
-run limit s (c ∷ cs) = run limit (step limit s c) cs
+abbrev pub run : {N F : End} → System N F → List Call → System N F
+run s [] = s
+run s (c ∷ cs) = run (step s c) cs

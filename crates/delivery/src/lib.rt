@@ -1,1 +1,2 @@
-// What is handed out is what was accepted: definitions (specs/) and theorems (proofs/) about two channels and the links between them. No code.
+// What is handed out is what was accepted: definitions (specs/) and theorems (proofs/) about any two ends of a connection and the links
+// between them, one of them sending or both. No code.

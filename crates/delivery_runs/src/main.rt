@@ -1,5 +1,8 @@
-// Runs two ends of a channel over links that lose and repeat frames. Standard input has a run a line, a letter a call; standard
-// output has a line for each call: the letter, the answer's number, and what was handed over or handed out.
+// Runs two ends of a channel over links that lose and repeat frames.
+//
+// Standard input has a run a line. A line that starts with the word `both` is a run of both ends at random, which both.rt describes;
+// standard output has one line for it. Any other is a letter a call, and standard output has a line for each: the letter, the
+// answer's number, and what was handed over or handed out; and an empty line for the line's end.
 //
 //     f        two fresh ends: block size 2, one repeat allowed; each link holds at most one frame
 //     s m      the near end is offered a message of 5, of 120 bytes
@@ -8,6 +11,11 @@
 //     A R X    the same of the frame on its way to the near end
 //     g w p    at the near end T3, T1, T_WAIT passes
 //     t        the far end's message is taken
+//
+// Any other letter acts as f.
+ghost use Prim.Native.Nat.{_≤_, _<_};
+ghost use lib.ListN.{length};
+use crate::end::arrived;
 use channel::Answer;
 use channel::Channel;
 use channel::Parameters;
@@ -18,6 +26,10 @@ use telegram::payload::Payload;
 use text::output::Output;
 use text::reading;
 use text::writing;
+
+mod both;
+mod end;
+mod queue;
 
 const GAP: u32 = 50;
 
@@ -40,6 +52,7 @@ struct Ends {
     length: usize,
     // How far the line of the present call is written.
     at: usize,
+    output: Output,
 }
 
 fn main() {
@@ -48,8 +61,8 @@ fn main() {
     let mut message = [0; 120];
     count_up(&mut message);
     let mut buffer = [0; 120];
-    let mut line = [0; 512];
-    letters(&text[..n], &message, &mut buffer, &mut line);
+    let mut line = [0; 1024];
+    lines(&text[..n], &message, &mut buffer, &mut line);
 }
 
 // The bytes 0, 1, 2 and so on.
@@ -61,32 +74,76 @@ fn count_up(bytes: &mut [u8]) {
     }
 }
 
-// Runs the letters one by one, until a line cannot be written.
-fn letters(text: &[u8], message: &[u8], buffer: &mut [u8], line: &mut [u8]) {
+// Runs the lines one by one, until one cannot be written. The ends that the letters act on stay from line to line.
+fn lines(text: &[u8], message: &[u8], buffer: &mut [u8], line: &mut [u8]) {
     let mut ends = fresh();
-    let mut output = Output::fresh();
+    let mut at = 0;
+    while at < text.len() {
+        let next = next_line(text, at);
+        ends = ends.played(reading::part(text, at, next), message, buffer, line);
+        if ends.is_cut_off() {
+            return;
+        }
+        at = next;
+    }
+}
+
+// Where the line that starts at a place ends, with its line end.
+fn next_line(text: &[u8], from: usize) -> usize
+    requires { ⌜ from < length (now text) ⌝ }
+    ensures { λ r. ⌜ (from < r) × (r ≤ length (now (text .entry))) ⌝ }
+{
+    let mut i = from;
+    while i < text.len() {
+        let c = text[i];
+        i += 1;
+        if c == b'\n' {
+            return i;
+        }
+    }
+    i
+}
+
+// A line's length without its end.
+fn without_end(text: &[u8]) -> usize {
+    let n = text.len();
+    if n == 0 {
+        return 0;
+    }
+    let last = n - 1;
+    if text[last] == b'\n' {
+        return last;
+    }
+    n
+}
+
+// Runs the letters one by one, until a line cannot be written.
+fn letters(start: Ends, text: &[u8], message: &[u8], buffer: &mut [u8], line: &mut [u8]) -> Ends {
+    let mut ends = start;
     let mut i = 0;
     while i < text.len() {
         let c = text[i];
         i += 1;
         ends = letter(ends, c, message, buffer, line);
-        output = say(output, line, ends.at);
-        if output.failed {
-            return;
+        if ends.is_cut_off() {
+            return ends;
         }
     }
+    ends
 }
 
-fn say(output: Output, line: &[u8], end: usize) -> Output {
-    output.say(reading::part(line, 0, end))
+// A call, and its line.
+fn letter(ends: Ends, c: u8, message: &[u8], buffer: &mut [u8], line: &mut [u8]) -> Ends {
+    written(ends, c, message, buffer, line).said(line)
 }
 
 // A call, and its line in line.
-fn letter(ends: Ends, c: u8, message: &[u8], buffer: &mut [u8], line: &mut [u8]) -> Ends {
+fn written(ends: Ends, c: u8, message: &[u8], buffer: &mut [u8], line: &mut [u8]) -> Ends {
+    let begun = ends.begun(c, line);
     if c == b'\n' {
-        return ends.begun().with(line, b"\n");
+        return begun;
     }
-    lettered(ends.begun().with(line, &[c]), c, message, buffer, line)
+    lettered(begun, c, message, buffer, line)
 }
 
 fn lettered(ends: Ends, c: u8, message: &[u8], buffer: &mut [u8], line: &mut [u8]) -> Ends {
@@ -95,35 +152,100 @@ fn lettered(ends: Ends, c: u8, message: &[u8], buffer: &mut [u8], line: &mut [u8
 
 fn call(ends: Ends, c: u8, message: &[u8], buffer: &mut [u8], line: &mut [u8]) -> Ends {
     match c {
-        b's' => offer(ends, 5, line),
-        b'm' => offer(ends, 120, line),
-        b'd' => ask_near(ends, message, line),
+        b's' | b'm' => offer(ends, length_of(c), line),
+        b'd' => ask(ends, message, line),
         b'D' => ask_far(ends, line),
-        b'a' => arrive_far(ends, false, buffer, line),
-        b'r' => arrive_far(ends, true, buffer, line),
-        b'x' => lose_forward(ends),
-        b'A' => arrive_near(ends, false, buffer, line),
-        b'R' => arrive_near(ends, true, buffer, line),
-        b'X' => lose_backward(ends),
-        b'g' => pass(ends, GAP, line),
-        b'w' => pass(ends, WAIT, line),
-        b'p' => pass(ends, HOLD, line),
+        b'a' | b'r' | b'x' => fate(ends, c, buffer, line),
+        b'A' | b'R' | b'X' => fate_back(ends, c, buffer, line),
+        b'g' | b'w' | b'p' => pass(ends, time_of(c), line),
         b't' => take(ends, buffer, line),
         _ => ends.anew(),
     }
 }
 
+fn length_of(c: u8) -> usize {
+    match c {
+        b's' => 5,
+        _ => 120,
+    }
+}
+
+fn time_of(c: u8) -> u64 {
+    match c {
+        b'g' => GAP as u64,
+        b'w' => WAIT as u64,
+        _ => HOLD as u64,
+    }
+}
+
+// What becomes of the frame on its way to the far end.
+fn fate(ends: Ends, c: u8, buffer: &mut [u8], line: &mut [u8]) -> Ends {
+    match c {
+        b'x' | b'X' => lose(ends),
+        b'r' | b'R' => arrive(ends, true, buffer, line),
+        _ => arrive(ends, false, buffer, line),
+    }
+}
+
+fn fate_back(ends: Ends, c: u8, buffer: &mut [u8], line: &mut [u8]) -> Ends {
+    fate(ends.turned(), c, buffer, line).turned()
+}
+
 impl Ends {
-    // Nothing written of the line.
-    fn begun(mut self) -> Ends {
+    // Runs a line.
+    fn played(self, text: &[u8], message: &[u8], buffer: &mut [u8], line: &mut [u8]) -> Ends {
+        let run = reading::part(text, 0, without_end(text));
+        if both::is_run(run) {
+            return self.answered(run, line);
+        }
+        letters(self, text, message, buffer, line)
+    }
+
+    // Plays the run of both ends that a line asks for.
+    fn answered(mut self, run: &[u8], line: &mut [u8]) -> Ends {
+        self.at = both::answer(run, line);
+        self.said(line)
+    }
+
+    // The line is written out.
+    fn said(mut self, line: &[u8]) -> Ends {
+        let output = self.output;
+        let next = output.say(reading::part(line, 0, self.at));
+        self.output = next;
+        self
+    }
+
+    // A line could not be written.
+    fn is_cut_off(self) -> bool {
+        let output = self.output;
+        output.failed
+    }
+
+    // The line of a call begins with its letter.
+    fn begun(mut self, c: u8, line: &mut [u8]) -> Ends {
         self.at = 0;
+        self.with(line, &[c])
+    }
+
+    // The far end is the near one.
+    fn turned(mut self) -> Ends {
+        let near = self.far;
+        let far = self.near;
+        let forward = self.backward;
+        let backward = self.forward;
+        self.near = near;
+        self.far = far;
+        self.forward = forward;
+        self.backward = backward;
         self
     }
 
     // Two fresh ends, in the same line.
     fn anew(self) -> Ends {
+        let output = self.output;
         let mut ends = fresh();
         ends.at = self.at;
+        ends.output = output;
         ends
     }
 
@@ -143,21 +265,12 @@ impl Ends {
     }
 
     // A frame goes into a link.
-    fn sending_forward(mut self, line: &mut [u8], payload: Payload) -> Ends {
+    fn sending(mut self, line: &mut [u8], payload: Payload) -> Ends {
         let link = Link {
             full: true,
             payload,
         };
         self.forward = link;
-        self.with_payload(line, payload)
-    }
-
-    fn sending_backward(mut self, line: &mut [u8], payload: Payload) -> Ends {
-        let link = Link {
-            full: true,
-            payload,
-        };
-        self.backward = link;
         self.with_payload(line, payload)
     }
 
@@ -191,6 +304,7 @@ fn fresh() -> Ends {
         backward: empty(),
         length: 0,
         at: 0,
+        output: Output::fresh(),
     }
 }
 
@@ -216,7 +330,7 @@ fn offer(mut ends: Ends, len: usize, line: &mut [u8]) -> Ends {
     ends.with_answer(line, answer)
 }
 
-fn ask_near(mut ends: Ends, message: &[u8], line: &mut [u8]) -> Ends {
+fn ask(mut ends: Ends, message: &[u8], line: &mut [u8]) -> Ends {
     let near = ends.near;
     let d = near.due(reading::part(message, 0, ends.length));
     let next = d.channel;
@@ -225,33 +339,24 @@ fn ask_near(mut ends: Ends, message: &[u8], line: &mut [u8]) -> Ends {
     let told = ends.with_answer(line, answer);
     if d.given {
         let payload = d.payload;
-        return told.sending_forward(line, payload);
+        return told.sending(line, payload);
     }
     told
 }
 
-fn ask_far(mut ends: Ends, line: &mut [u8]) -> Ends {
-    let far = ends.far;
-    let d = far.due(&[0; 0]);
-    let next = d.channel;
-    ends.far = next;
-    let answer = d.answer;
-    let told = ends.with_answer(line, answer);
-    if d.given {
-        let payload = d.payload;
-        return told.sending_backward(line, payload);
-    }
-    told
+// The far end has no message to lend.
+fn ask_far(ends: Ends, line: &mut [u8]) -> Ends {
+    ask(ends.turned(), &[0; 0], line).turned()
 }
 
-fn arrive_far(mut ends: Ends, stays: bool, buffer: &mut [u8], line: &mut [u8]) -> Ends {
+fn arrive(mut ends: Ends, stays: bool, buffer: &mut [u8], line: &mut [u8]) -> Ends {
     let link = ends.forward;
     if !link.full {
         return ends.with(line, b" -");
     }
     let far = ends.far;
     let payload = link.payload;
-    let r = arrive(far, payload, buffer);
+    let r = arrived(far, payload, buffer);
     let answer = r.answer;
     let next = r.channel;
     ends.far = next;
@@ -262,48 +367,14 @@ fn arrive_far(mut ends: Ends, stays: bool, buffer: &mut [u8], line: &mut [u8]) -
     ends.with_answer(line, answer)
 }
 
-fn arrive_near(mut ends: Ends, stays: bool, buffer: &mut [u8], line: &mut [u8]) -> Ends {
-    let link = ends.backward;
-    if !link.full {
-        return ends.with(line, b" -");
-    }
-    let near = ends.near;
-    let payload = link.payload;
-    let r = arrive(near, payload, buffer);
-    let answer = r.answer;
-    let next = r.channel;
-    ends.near = next;
-    if !stays {
-        let none = empty();
-        ends.backward = none;
-    }
-    ends.with_answer(line, answer)
-}
-
-fn arrive(end: Channel, payload: Payload, buffer: &mut [u8]) -> channel::Answered {
-    let all = payload.bytes;
-    let telegram = reading::part(&all, 0, payload.len);
-    arrival::arrive(
-        end,
-        kinds::sort(telegram),
-        reading::part(telegram, 1, 8),
-        buffer,
-    )
-}
-
-fn lose_forward(mut ends: Ends) -> Ends {
+fn lose(mut ends: Ends) -> Ends {
     ends.forward = empty();
     ends
 }
 
-fn lose_backward(mut ends: Ends) -> Ends {
-    ends.backward = empty();
-    ends
-}
-
-fn pass(mut ends: Ends, tenths: u32, line: &mut [u8]) -> Ends {
+fn pass(mut ends: Ends, tenths: u64, line: &mut [u8]) -> Ends {
     let near = ends.near;
-    let r = near.elapse(tenths as u64);
+    let r = near.elapse(tenths);
     let answer = r.answer;
     let next = r.channel;
     ends.near = next;
@@ -314,16 +385,21 @@ fn take(mut ends: Ends, buffer: &[u8], line: &mut [u8]) -> Ends {
     let mut far = ends.far;
     let receiver = far.receiver;
     let complete = receiver.complete;
-    let length = complete.length as usize;
     let t = receiver.take(buffer.len());
+    let note = t.note;
     let next = t.receiver;
     far.receiver = next;
     ends.far = far;
-    let note = t.note;
+    let message = reading::part(buffer, 0, complete.length as usize);
+    ends.at = tell_taking(line, ends.at, note, message);
+    ends
+}
+
+fn tell_taking(line: &mut [u8], at: usize, note: Taking, message: &[u8]) -> usize {
     match note {
-        Taking::Shown => ends.with_bytes(line, reading::part(buffer, 0, length)),
-        Taking::NoneComplete => ends.with(line, b" none"),
-        Taking::ShortBuffer => ends.with(line, b" short"),
+        Taking::Shown => writing::pairs(line, at, message),
+        Taking::NoneComplete => writing::bytes(line, at, b" none"),
+        Taking::ShortBuffer => writing::bytes(line, at, b" short"),
     }
 }
 

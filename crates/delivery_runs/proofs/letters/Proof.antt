@@ -6,16 +6,10 @@ use Rattle.delivery_runs.proofs.letters.Statement.{statement}
 use Rattle.delivery_runs.proofs.letters.Tie as tie
 
 abbrev Inv-loop : tie.InvT-loop
-Inv-loop text message buffer₀ line₀ ends₀ output₀ i₀ buffer line ends output i = (length buffer ≡ length buffer₀) × (length line ≡ length line₀)
+Inv-loop text message buffer₀ line₀ ends₀ i₀ buffer line ends i = (length buffer ≡ length buffer₀) × (length line ≡ length line₀)
 
 abbrev μ-loop : tie.MeasureT-loop
-μ-loop text message buffer₀ line₀ ends₀ output₀ i₀ buffer line ends output i = length text - i
-
-fresh-requires : tie.Need-fresh-requires Inv-loop μ-loop
-fresh-requires c κs = search needs
-
-fresh-requires-2 : tie.Need-fresh-requires-2 Inv-loop μ-loop
-fresh-requires-2 c κs = search needs
+μ-loop text message buffer₀ line₀ ends₀ i₀ buffer line ends i = length text - i
 
 loop-holds : tie.Need-loop-holds Inv-loop μ-loop
 loop-holds c = search needs
@@ -29,8 +23,8 @@ add-i c = search needs
 letter-requires : tie.Need-letter-requires Inv-loop μ-loop
 letter-requires c κs = search needs
 
-say-requires : tie.Need-say-requires Inv-loop μ-loop
-say-requires c κs = search needs
+is-cut-off-requires : tie.Need-is-cut-off-requires Inv-loop μ-loop
+is-cut-off-requires c κs = search needs
 
 same-length : tie.Need-same-length Inv-loop μ-loop
 same-length c = search needs
@@ -62,13 +56,11 @@ letters-spec =
     (tie.spec
     Inv-loop
     μ-loop
-    fresh-requires
-    fresh-requires-2
     loop-holds
     shared-slice-read-c
     add-i
     letter-requires
-    say-requires
+    is-cut-off-requires
     same-length
     same-length-2
     returns
