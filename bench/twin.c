@@ -111,7 +111,7 @@ static inline void write_frame(struct payload *p, const uint8_t *message, size_t
     p->len = 1 + n;
     p->bytes[0] = (asks ? 0 : 0x20) | (last ? 0x10 : 0) | (number & 15);
     if (at == 0) {
-        p->bytes[1] = len >> 8 & 255;
+        p->bytes[1] = len >> 8 & 15;
         p->bytes[2] = len & 255;
         memcpy(p->bytes + 3, message, n - 2);
     } else if (n == PIECE) {
@@ -226,15 +226,24 @@ static inline enum handing sender_hand(struct sender *s, const struct terms *t, 
 
 /* ---- the receiving half ---- */
 
+/* A message as its first frame declares it; length 0 is none. */
+struct message {
+    uint16_t length;
+    uint8_t flags;
+};
+
+static const struct message none = {0, 0};
+
 struct standing {
     uint8_t expected;
     bool discarding;
-    uint16_t length, fill;
+    struct message begun;
+    uint16_t fill;
 };
 
 struct receiver {
     struct standing at, back;
-    uint16_t complete;
+    struct message complete;
     bool ack_due, ack_ready;
     uint8_t ack_number;
 };
@@ -254,7 +263,7 @@ static inline enum answer receiver_discard(struct receiver *r, bool asks, bool l
 {
     r->at.expected = (r->at.expected + 1) & (NUMBERS - 1);
     r->at.discarding = !last;
-    r->at.length = 0;
+    r->at.begun = none;
     r->at.fill = 0;
     receiver_settle(r, asks, last, false);
     return why;
@@ -265,20 +274,22 @@ static inline enum answer receiver_data(struct receiver *r, const struct telegra
 {
     bool asks = t->asks, last = t->last;
     if (t->number != r->at.expected) {
-        receiver_settle(r, asks, false, r->complete != 0);
+        receiver_settle(r, asks, false, r->complete.length != 0);
         return NO_CHANGE;
     }
-    if (r->complete) {
+    if (r->complete.length) {
         receiver_settle(r, asks, false, true);
         return BUSY;
     }
     if (r->at.discarding)
         return receiver_discard(r, asks, last, GOOD);
-    unsigned length = r->at.length, fill = r->at.fill;
+    unsigned length = r->at.begun.length, fill = r->at.fill;
+    uint8_t flags = r->at.begun.flags;
     if (length == 0) {
         if (n < 2)
             return receiver_discard(r, asks, last, BROKEN);
-        length = (unsigned)bytes[0] << 8 | bytes[1];
+        length = (unsigned)(bytes[0] & 15) << 8 | bytes[1];
+        flags = bytes[0] >> 4;
         if (length == 0 || length > LONGEST)
             return receiver_discard(r, asks, last, BROKEN);
         bytes += 2;
@@ -296,10 +307,11 @@ static inline enum answer receiver_data(struct receiver *r, const struct telegra
     else
         memcpy(buffer + fill, bytes, n);
     r->at.expected = (r->at.expected + 1) & (NUMBERS - 1);
-    r->at.length = last ? 0 : (uint16_t)length;
+    r->at.begun.length = last ? 0 : (uint16_t)length;
+    r->at.begun.flags = last ? 0 : flags;
     r->at.fill = last ? 0 : (uint16_t)filled;
     if (last)
-        r->complete = (uint16_t)length;
+        r->complete = (struct message){(uint16_t)length, flags};
     receiver_settle(r, asks, last, false);
     return GOOD;
 }
@@ -600,18 +612,18 @@ static enum answer connection_send(struct connection *c, size_t len)
     return sender_offer(&c->sender, len);
 }
 
-/* The message is the first *len bytes of the lent buffer. */
-static enum answer connection_take(struct connection *c, size_t room, size_t *len)
+/* The message is the first m->length bytes of the lent buffer. */
+static enum answer connection_take(struct connection *c, size_t room, struct message *m)
 {
-    *len = 0;
+    *m = none;
     if (c->phase != OPEN)
         return NOT_DUE;
-    if (c->receiver.complete == 0)
+    if (c->receiver.complete.length == 0)
         return BUSY;
-    if (room < c->receiver.complete)
+    if (room < c->receiver.complete.length)
         return SHORT_BUFFER;
-    *len = c->receiver.complete;
-    c->receiver.complete = 0;
+    *m = c->receiver.complete;
+    c->receiver.complete = none;
     return GOOD;
 }
 
@@ -693,10 +705,10 @@ static bool one_way(struct connection *near, struct connection *far, struct tall
         to = from;
         from = other;
     }
-    size_t taken;
+    struct message taken;
     connection_take(far, sizeof buffer, &taken);
     tally->messages++;
-    return done && taken == len && memcmp(buffer, message, len) == 0;
+    return done && taken.length == len && taken.flags == 0 && memcmp(buffer, message, len) == 0;
 }
 
 /* The number of rounds: 1 for no input, and 0 for what is no such number. */

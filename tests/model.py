@@ -3,7 +3,7 @@
 console's line protocol; and a car's unit as the other end. Run as a program, it answers standard input
 line by line as the console does.
 
-A call answers a pair: the number, and what it carries (None, "done", an opcode, a frame, a message).
+A call answers a pair: the number, and what it carries (None, "done", an opcode, a frame, a message with its flags).
 A timer at 0 does not run: every time that can be waited for is above 0, but for the peer's T3.
 """
 
@@ -58,16 +58,27 @@ def kind_of(data):
     return None
 
 
+class Message(NamedTuple):
+    """A message as it is handed out."""
+    data: bytes
+    flags: int = 0
+
+
+def length_bytes(length, flags=0):
+    """What stands before a message, high byte first: four bits of flags, then its length in twelve."""
+    return (flags << 12 | length).to_bytes(2, "big")
+
+
 def frames_of(length):
     """Two length bytes and the message, cut in sevens."""
     return (2 + length + 6) // 7
 
 
-def cut(message, place, block, number):
-    """The frame at this place (from 0) of the message; its number is given."""
+def cut(message, place, block, number, flags=0):
+    """The frame at this place (from 0) of the message; its number is given. Only a unit sets flags."""
     last = place == frames_of(len(message)) - 1
     asks = last or (place + 1) % block == 0
-    stream = len(message).to_bytes(2, "big") + message
+    stream = length_bytes(len(message), flags) + message
     first = (0x00 if asks else 0x20) | (0x10 if last else 0x00) | number
     return bytes([first]) + stream[7 * place:7 * place + 7], asks
 
@@ -158,8 +169,8 @@ class Receiver:
 
     def __init__(self):
         self.expected = 0
-        self.course = None      # the message begun: None, THROWN, or declared length and bytes so far
-        self.complete = None    # length of the message that waits untaken
+        self.course = None      # the message begun: None, THROWN, or declared length, bytes so far and flags
+        self.complete = None    # length and flags of the message that waits untaken
         self.place = (0, None)  # what a break returns to: expected and course
         self.ack = None         # the due Ack
 
@@ -190,11 +201,12 @@ class Receiver:
             return 0
         answer = 0
         if self.course is None:
-            declared, fill, body = int.from_bytes(payload[:2], "big"), 0, payload[2:]
+            flags, declared = divmod(int.from_bytes(payload[:2], "big"), 4096)
+            fill, body = 0, payload[2:]
             if len(payload) < 2 or not 1 <= declared <= LONGEST:
                 answer = 9
         else:
-            declared, fill = self.course
+            declared, fill, flags = self.course
             body = payload
         reached = fill + len(body)
         if reached > declared or last != (reached == declared):
@@ -205,8 +217,8 @@ class Receiver:
             self.course = None if last else THROWN
             return answer
         buffer[fill:reached] = body
-        self.course = None if last else (declared, reached)
-        self.complete = declared if last else None
+        self.course = None if last else (declared, reached, flags)
+        self.complete = (declared, flags) if last else None
         return 0
 
     def go_back(self):
@@ -216,11 +228,11 @@ class Receiver:
     def take(self, buffer):
         if self.complete is None:
             return 5, None
-        if len(buffer) < self.complete:
+        length, flags = self.complete
+        if len(buffer) < length:
             return 7, None
-        message = bytes(buffer[:self.complete])
         self.complete = None
-        return 0, message
+        return 0, Message(bytes(buffer[:length]), flags)
 
 
 class Connection:
@@ -562,7 +574,8 @@ def spoken(number, value):
         return "11 %02X" % value
     if type(value) is tuple:
         return "%d %03X %s" % (number, value[0], pairs(value[1]))
-    return "%d %s" % (number, pairs(value))
+    flags = " flags %X" % value.flags if value.flags else ""
+    return "%d%s %s" % (number, flags, pairs(value.data))
 
 
 # The other end
@@ -570,7 +583,7 @@ def spoken(number, value):
 class Car:
     """A unit in the car, for realistic traffic: it answers the opening, acknowledges, sends messages of its own,
     is not ready now and then, tests, breaks off and disconnects. `habits` gives each its chance (0 if not named):
-    refuse, refuse_data, hold, test, break, bye, speak."""
+    refuse, refuse_data, hold, test, break, bye, speak, flag."""
 
     def __init__(self, rng, tx, block, t3, habits):
         self.rng, self.tx, self.block, self.t3, self.habits = rng, tx, block, t3, habits
@@ -585,7 +598,7 @@ class Car:
         self.agreed = self.block
         self.parameters = False
         self.expected, self.stream = 0, b""
-        self.message, self.number = None, 0
+        self.message, self.flags, self.number = None, 0, 0
         self.oldest = self.next = self.high = 0
         self.waiting = self.pausing = False
 
@@ -625,7 +638,7 @@ class Car:
             self.next, self.waiting = self.oldest, False
             self.pausing = not first & 0x20
         if self.oldest == frames_of(len(self.message)):
-            self.sent.append(self.message)
+            self.sent.append(Message(self.message, self.flags))
             self.number = (self.number + self.oldest) % 16
             self.message, self.oldest, self.next, self.high = None, 0, 0, 0
 
@@ -635,7 +648,7 @@ class Car:
             self.expected = (self.expected + 1) % 16
             self.stream += data[1:]
             if data[0] & 0x10:
-                if len(self.stream) > 2 and int.from_bytes(self.stream[:2], "big") == len(self.stream) - 2:
+                if len(self.stream) > 2 and self.stream[:2] == length_bytes(len(self.stream) - 2):
                     self.heard.append(self.stream[2:])
                 self.stream = b""
         if data[0] & 0x20:
@@ -655,12 +668,13 @@ class Car:
             if not self.chance("speak"):
                 return None
             self.message = self.rng.randbytes(self.rng.choice(lengths))
+            self.flags = self.rng.randrange(1, 16) if self.chance("flag") else 0
         elif self.chance("break"):
             self.next, self.waiting = self.oldest, False
             return self.rx, b"\xA4"
         if self.waiting or self.pausing:
             return None
-        frame, self.waiting = cut(self.message, self.next, self.agreed, (self.number + self.next) % 16)
+        frame, self.waiting = cut(self.message, self.next, self.agreed, (self.number + self.next) % 16, self.flags)
         self.next += 1
         self.high = max(self.high, self.next)
         return self.rx, frame

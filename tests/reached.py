@@ -18,9 +18,12 @@ def label(line, answer):
     if words[0] == "11" or words[-1] == "done":
         return answer
     if words[0] == "0" and len(words) > 1:
-        return "0 message" if name_of(line) == b"take" else "0 frame"
+        return "0 flags" if words[1] == "flags" else "0 message" if name_of(line) == b"take" else "0 frame"
     return words[0]
 
+
+# Declared lengths at the limits, with what they are answered where the buffer is long enough.
+DECLARED = {0: 9, 1: 0, model.LONGEST: 0, model.LONGEST + 1: 9, 4095: 9}
 
 # What the bytes of a setting can hold.
 WIDEST = (65535, 255, 255, 255, 255, 65535, 255, 255, 65535, 65535, 255)
@@ -30,7 +33,7 @@ def near(value, limit):
     return {limit - 1: "one less", limit: "equal", limit + 1: "one more"}.get(value)
 
 
-def place_of(console, line):
+def place_of(console, line, past):
     """The places at a limit or in a rule that this line is at, before it is answered."""
     words = [word for word in line.split(b" ") if word]
     c = console.connection
@@ -70,10 +73,18 @@ def place_of(console, line):
             if c.sender.hold:
                 yield "send in a hold"
         elif words[0] == b"take" and c.phase == "open" and c.receiver.complete:
-            if c.receiver.complete in (1, model.LONGEST):
-                yield "take %d" % c.receiver.complete
-            if near(len(console.buffer), c.receiver.complete):
-                yield "take room %s" % near(len(console.buffer), c.receiver.complete)
+            length, flags = c.receiver.complete
+            if length in (1, model.LONGEST):
+                yield "take %d" % length
+            if near(len(console.buffer), length):
+                yield "take room %s" % near(len(console.buffer), length)
+            yield "take, flags %X" % flags
+            if flags:
+                yield "take, flagged message waits"
+            for event in past:
+                yield "take %s flags after %s" % ("with" if flags else "without", event)
+        elif words[0] == b"take" and c.phase == "open" and flags_of(c.receiver.course):
+            yield "take, flagged message begun"
         elif words[0] == b"close":
             yield "close %s" % c.phase
         elif words[0] == b"due" and c.phase == "open":
@@ -147,13 +158,22 @@ def place_of_frame(console, ident, data):
             yield "ack in a repeat"
     elif kind == "break":
         r = c.receiver
+        back = r.expected != r.place[0]
         yield "break, back %s, %s to %s, message waits %s" % (
-            r.expected != r.place[0], shape(r.course), shape(r.place[1]), r.complete is not None)
+            back, shape(r.course), shape(r.place[1]), r.complete is not None)
+        if back and flags_of(r.place[1]):
+            yield "break into a flagged message, %s" % shape(r.course)
+        elif back and flags_of(r.course):
+            yield "break to before a flagged message"
+        if r.complete and r.complete[1]:
+            yield "break, flagged message waits"
     elif kind == "data":
         r = c.receiver
         asks, last = not data[0] & 0x20, bool(data[0] & 0x10)
         order = data[0] & 15 == r.expected
         yield "data in order %s, message waits %s, asks %s" % (order, r.complete is not None, asks)
+        if r.complete and r.complete[1]:
+            yield "data, flagged message waits"
         if not order or r.complete is not None:
             return
         room = len(console.buffer)
@@ -161,12 +181,16 @@ def place_of_frame(console, ident, data):
             declared, reached = r.course[0], r.course[1] + len(data) - 1
             if near(room, declared):
                 yield "later frame, room %s" % near(room, declared)
+            if flags_of(r.course):
+                yield "later frame of a flagged message"
         elif r.course is None and len(data) >= 3:
-            declared, reached = data[1] << 8 | data[2], len(data) - 3
-            if declared in (0, 1, model.LONGEST, model.LONGEST + 1):
-                yield "declared %d" % declared
+            flags, declared, reached = data[1] >> 4, (data[1] & 15) << 8 | data[2], len(data) - 3
+            if declared in DECLARED:
+                yield "declared %d, flags %X" % (declared, flags)
             if near(room, declared):
-                yield "first frame, room %s" % near(room, declared)
+                yield "first frame, room %s, flags %X" % (near(room, declared), flags)
+            if flags:
+                yield "first frame of a flagged message"
         else:
             yield "%s frame, %d bytes, last %s" % ("thrown" if r.course else "first", len(data), last)
             return
@@ -178,6 +202,20 @@ def place_of_frame(console, ident, data):
 
 def shape(course):
     return "nothing" if course is None else "thrown" if course == model.THROWN else "begun"
+
+
+def flags_of(course):
+    return course[2] if type(course) is tuple else 0
+
+
+def past_after(past, console, line, places, answer):
+    """What befell flagged messages since a take last showed a message, and whether that one was flagged."""
+    if console.connection.phase != "open":
+        return set()
+    number, *rest = answer.split(" ")
+    if name_of(line) == b"take" and number == "0":
+        return {"a flagged message" if rest[0] == "flags" else "an unflagged message"}
+    return past | {"%s, %s" % (place, number) for place in places if "flagged" in place and "after" not in place}
 
 
 def timers(c):
@@ -214,8 +252,7 @@ A1 block 15, asked True, due True: 0|A1 block 0, test out True, again False: 2
 A1 block 1, test out True, again False: 0|A1 block 15, test out True, again False: 0
 A1 block 16, test out True, again False: 2|A1 block 15, test out True, again True: 0
 A1 block 15, test out False, again False: 4|A1 block 16, test out False, again False: 4|send 0: 6|send 1: 0
-send 1024: 0|send 1025: 6|send in a hold: 0|declared 0: 9|declared 1: 0|declared 1024: 0|declared 1025: 9
-first frame, room equal: 0|first frame, room one less: 7|first frame, room one less: 9|first frame, room one more: 0
+send 1024: 0|send 1025: 6|send in a hold: 0|first frame, room one less, flags 0: 9
 later frame, room equal: 0|later frame, room one less: 7|later frame, room one more: 0|take 1: 0|take 1024: 0
 take room equal: 0|take room one less: 7|take room one more: 0|ack ready, distance 15 of 15: 0
 ack ready, distance 15 of 15: 0 done|ack ready, distance 15 of 14: 12|ack not ready, distance 15 of 15: 0
@@ -261,10 +298,28 @@ open te too wide: 10|open mntc too wide: 10|open repeats too wide: 10|open twait
 open interval too wide: 10|open tests too wide: 10|open 64 bits and more: 10|open 64 bits and more, setup: 4
 open 64 bits and more, parameters: 4|open 64 bits and more, open: 4|CR before LF|CR before LF, blank
 CR before LF, comment|CR twice: error|CR within: error|CR before LF, longest|CR before LF, too long: error
+take, flagged message begun: 5|data, flagged message waits: 5|data, flagged message waits: 12
+break into a flagged message, begun: 0|break into a flagged message, thrown: 0|break to before a flagged message: 0
+break, flagged message waits: 0|take with flags after an unflagged message: 0|take with flags after a flagged message: 0
+take without flags after a flagged message: 0|take with flags after break into a flagged message, begun, 0: 0
+take with flags after break into a flagged message, thrown, 0: 0
+take with flags after break to before a flagged message, 0: 0
+take without flags after break to before a flagged message, 0: 0
+take with flags after break, flagged message waits, 0: 0|take with flags after data, flagged message waits, 5: 0
+take with flags after data, flagged message waits, 12: 0|take with flags after take, flagged message begun, 5: 0
+take with flags after take, flagged message waits, 7: 0
+take with flags after first frame of a flagged message, 0: 0
+take with flags after first frame of a flagged message, 7: 0
+take without flags after first frame of a flagged message, 7: 0
+take with flags after first frame of a flagged message, 9: 0
+take without flags after first frame of a flagged message, 9: 0
+take with flags after later frame of a flagged message, 0: 0
+take with flags after later frame of a flagged message, 7: 0
+take without flags after later frame of a flagged message, 9: 0
 """
 
 
-ANSWERS = ("0", "0 done", "0 frame", "0 message", *map(str, range(1, 11)), "11 D6", "11 D7", "11 D8", "12",
+ANSWERS = ("0", "0 done", "0 frame", "0 message", "0 flags", *map(str, range(1, 11)), "11 D6", "11 D7", "11 D8", "12",
            "buffer", "error")
 
 
@@ -275,5 +330,9 @@ def summary(tally):
 
 def missing(tally):
     lengths = ["bytes %s %d: 1" % (phase, length) for phase in ("setup", "parameters", "open") for length in range(13)]
+    flags = [place % nibble for nibble in range(16) for place in (
+        "take, flags %X: 0", "take, flags %X: 7", "first frame, room one less, flags %X: 7",
+        "first frame, room equal, flags %X: 0", "first frame, room one more, flags %X: 0",
+        *("declared %d, flags %%X: %d" % pair for pair in DECLARED.items()))]
     places = [place for line in REACHED.strip().split("\n") for place in line.split("|")]
-    return [name for name in [*ANSWERS, *lengths, *places] if not tally[name]]
+    return [name for name in [*ANSWERS, *lengths, *flags, *places] if not tally[name]]

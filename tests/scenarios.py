@@ -3,7 +3,7 @@ are at the edge of a rule."""
 
 import model
 from model import Settings
-from reached import WIDEST, label, name_of, picture, place_of, timers
+from reached import DECLARED, WIDEST, label, name_of, past_after, picture, place_of, timers
 
 HUGE = (65535, 65536, 2**31, 2**32 - 1, 2**32, 2**63, model.TIME - 1, model.TIME, model.TIME, model.TIME)
 LENGTHS = (1, 1, 2, 4, 5, 6, 11, 12, 13, 26, 100, 102, 103, 104, 105, 110, 208, 209)
@@ -17,6 +17,7 @@ class Play:
         self.rng, self.tally, self.check = rng, tally, check
         self.console = model.Console(start)
         self.lines, self.expected = [], []
+        self.past = set()       # as past_after has it
         self.returns = rng.choice((0, 0, 0, 0, 0, 0, 0.5, 1))       # how many lines end in CR LF
         self.say("new")
 
@@ -31,7 +32,7 @@ class Play:
             line += b"\r"
         before = picture(self.console) if self.check else None
         sent, line = line, model.without_return(line)
-        places = list(place_of(self.console, line)) if line.strip(b" ") and line[:1] != b"#" else []
+        places = list(place_of(self.console, line, self.past)) if line.strip(b" ") and line[:1] != b"#" else []
         answer = self.console.answer(sent)
         self.lines.append(sent)
         self.expected.append(answer)
@@ -42,6 +43,7 @@ class Play:
         number = answer.split(" ")[0]
         for place in places:
             self.tally["%s: %s" % (place, answer if answer == "0 done" else number)] += 1
+        self.past = past_after(self.past, self.console, line, places, answer)
         if self.check:
             self.left_alone(line, number, before)
         return answer
@@ -112,6 +114,17 @@ class Play:
 
     def bytes(self, count):
         return self.rng.randbytes(count)
+
+    def flags(self):
+        return self.rng.choice((0, 0, 0, 8, self.rng.randrange(16)))
+
+    def first(self, bits, declared, flags):
+        """A first frame in order, with AR and EOM as the bits have them."""
+        return self.heard(bits | self.c.receiver.expected, *model.length_bytes(declared, flags), *self.bytes(min(5, declared)))
+
+    def later(self, bits, count):
+        """So many bytes more, in order."""
+        return self.heard(bits | self.c.receiver.expected, *self.bytes(count))
 
     # Settings and opening
 
@@ -302,10 +315,9 @@ class Play:
             room = len(self.console.buffer)
             declared = rng.choice((1, 2, 5, 6, 12, 13, 19, 26, 40, rng.randrange(200)))
             if rng.random() < 0.2:
-                declared = rng.choice((0, 1, room - 1, room, room + 1, 1023, 1024, 1025, 1026, 65535,
-                                       rng.randrange(65536)))
-            declared = max(0, min(65535, declared))
-            body = declared.to_bytes(2, "big") + self.bytes(min(5, declared))
+                declared = rng.choice((0, 1, room - 1, room, room + 1, 1023, 1024, 1025, 1026, 4095, rng.randrange(4096)))
+            declared = max(0, min(4095, declared))
+            body = model.length_bytes(declared, self.flags()) + self.bytes(min(5, declared))
             if not odd:
                 last = declared <= 5
             elif rng.random() < 0.7:
@@ -321,9 +333,9 @@ class Play:
     def room(self):
         r = self.c.receiver if self.c.phase == "open" else None
         choices = [0, 1, 5, 26, 200, 1023, 1024, 1024, 1025, 4095, 4096]
-        near_to = r and (r.complete or (type(r.course) is tuple and r.course[0]))
-        if near_to:
-            choices += [near_to - 1, near_to, near_to + 1] * 4
+        message = r and (r.complete or r.course)
+        if type(message) is tuple:
+            choices += [message[0] - 1, message[0], message[0] + 1] * 4
         self.say("room %d" % self.rng.choice(choices))
 
     def far_id(self):
@@ -493,7 +505,7 @@ class Play:
             elif way == "take":
                 answer = self.say("take")
                 if answer.startswith("0"):
-                    taken.append(bytes.fromhex(answer[2:]))
+                    taken.append(shown(answer))
             else:
                 self.buffer()
         if clean:
@@ -518,6 +530,15 @@ class Play:
             self.say("close")
         self.due()
         self.due()
+
+
+def shown(answer):
+    """The message that the answer to a take shows."""
+    words = answer.split(" ")[1:]
+    flags = 0
+    if words[0] == "flags":
+        flags, words = int(words[1], 16), words[2:]
+    return model.Message(bytes.fromhex("".join(words)), flags)
 
 
 # What may be done at each step, and how often: while opening, and on an open connection.
@@ -641,29 +662,63 @@ def opened(play):
     play.opening(Settings(interval=0))
 
 
+BITS = (0x00, 0x10, 0x20, 0x30)         # asks for an Ack or not, EOM or not
+
+
 def every_first_frame(play):
-    """First frames of every length, with every flag, of messages at the limits, in buffers at the limits."""
-    for declared in (0, 1, 4, 5, 6, 7, 1024, 1025, 65535):
+    """First frames of every length, with and without AR and EOM, of messages at the limits, in buffers at the limits."""
+    for declared in (0, 1, 4, 5, 6, 7, 1024, 1025, 4095):
         for length in range(1, 8):
-            for flags in (0x00, 0x10, 0x20, 0x30):
+            for bits in BITS:
                 for room in sorted({max(0, declared - 1), declared, declared + 1}):
                     opened(play)
-                    play.say("room %d" % min(room, model.BUFFER))
-                    play.heard(flags, *(declared.to_bytes(2, "big") + play.bytes(5))[:length])
+                    play.say("room %d" % room)
+                    play.heard(bits, *(model.length_bytes(declared) + play.bytes(5))[:length])
                     after_data(play)
 
 
 def every_later_frame(play):
-    """Later frames of every length, with every flag, of messages short of their end, in buffers at the limits."""
+    """Later frames of every length, with and without AR and EOM, of messages short of their end, in buffers at the limits."""
     for declared in (6, 7, 8, 12, 13):
         for length in range(1, 8):
-            for flags in (0x00, 0x10, 0x20, 0x30):
+            for bits in BITS:
                 for room in (declared - 1, declared):
                     opened(play)
-                    play.heard(play.rng.choice((0x00, 0x20)), 0x00, declared, *play.bytes(5))
+                    play.first(play.rng.choice((0x00, 0x20)), declared, play.flags())
                     play.say("room %d" % room)
-                    play.heard(flags | 0x01, *play.bytes(length))
+                    play.later(bits, length)
                     after_data(play)
+
+
+def every_flags(play):
+    """Every value of the flags, on messages behind each other: at both sides of each limit, and over breaks."""
+    for flags in range(16):
+        opened(play)
+        for declared in DECLARED:
+            play.first(0x10 if declared == 1 else 0x20, declared, flags)
+            play.later(0x10, 1)
+            play.say("take")
+            play.first(0x10, 1, 0)
+            play.say("take")
+        for room in (4, 5, 6):
+            play.say("room %d" % room)
+            play.first(0x10, 5, flags)
+            play.say("room 4")
+            play.say("take")
+            play.say("room %d" % room)
+            play.say("take")
+        play.say("room 1024")
+        for bits, count, again in ((0x00, 1, None), (0x00, 7, None), (0x20, 1, flags), (0x20, 7, 0)):
+            play.first(bits, 12, flags)
+            play.later(0x20, count)
+            play.say("take")
+            play.heard(0xA4)
+            if again is not None:
+                play.first(0x20, 12, again)
+            play.later(0x10, 7)
+            play.heard(0xA4)
+            play.say("take")
+            play.due()
 
 
 def after_data(play):
@@ -686,9 +741,9 @@ def whole(play, length):
             play.heard(0xB0 | (s.number + s.next) % 16)
         else:
             play.due()
-    message = play.bytes(length)
+    message, flags = play.bytes(length), play.flags()
     for place in range(model.frames_of(length)):
-        frame, asks = model.cut(message, place, s.block, r.expected)
+        frame, asks = model.cut(message, place, s.block, r.expected, flags)
         play.heard(*frame)
         if asks:
             play.due()
@@ -738,8 +793,8 @@ def every_time_code(play):
 
 
 SWEEPS = (limits, every_reply, lambda play: every_first_byte(play, "parameters"),
-          lambda play: every_first_byte(play, "open"), every_ack, every_first_frame, every_later_frame, every_length,
-          every_block, every_default, every_time_code)
+          lambda play: every_first_byte(play, "open"), every_ack, every_first_frame, every_later_frame, every_flags,
+          every_length, every_block, every_default, every_time_code)
 
 
 # At random
@@ -808,7 +863,7 @@ def full_blocks(play, rng, steps):
 def talking(play, rng, steps, lengths, loss=0.0, clean=False):
     """Both ends talk; unless clean, frames are also repeated and change places, and the car refuses and leaves."""
     pick = rng.choice
-    habits = {"speak": 0.5, "hold": pick((0, 0.05, 0.3)), "test": pick((0, 0.02))}
+    habits = {"speak": 0.5, "hold": pick((0, 0.05, 0.3)), "test": pick((0, 0.02)), "flag": pick((0, 0.3))}
     if not clean:
         habits.update({"break": pick((0, 0.01, 0.05)), "refuse": 0.1, "refuse_data": 0.3, "bye": pick((0, 0.002))})
     own = play.settings(t1=0x8A, interval=pick((0, 3000, 10000)), repeats=255 if clean else pick((5, 20)), tests=5,

@@ -65,9 +65,9 @@ pub fresh-fields : (p : Parameters) → fresh p
       parameters = p;
       sender = record { length = 0; acked = 0; high = 0; next = 0; oldest = 0; count = 0; wait = 0; hold = 0; gap = 0 };
       receiver = record {
-        at = record { expected = 0; discarding = false; begun = record { length = 0 }; fill = 0 };
-        back = record { expected = 0; discarding = false; begun = record { length = 0 }; fill = 0 };
-        complete = record { length = 0 };
+        at = record { expected = 0; discarding = false; begun = record { length = 0; flags = 0 }; fill = 0 };
+        back = record { expected = 0; discarding = false; begun = record { length = 0; flags = 0 }; fill = 0 };
+        complete = record { length = 0; flags = 0 };
         ack = record { due = false; ready = false; number = 0 };
       };
       tests = record { out = false; again = false; wait = 0; unanswered = 0; interval = p .interval };

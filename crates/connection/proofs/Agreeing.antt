@@ -75,7 +75,7 @@ module _ (c : Connection) (agreeing′ : c .phase ≡ 2) where
   unfolding sentBy
   sentBy-agreeing limit n = rw agreeing′
 
-  pub takenBy-agreeing : (room : ℕ) → takenBy c room ≡ record { told = plainly NotDue 4; len = 0; connection = c }
+  pub takenBy-agreeing : (room : ℕ) → takenBy c room ≡ record { told = plainly NotDue 4; len = 0; flags = 0; connection = c }
   unfolding takenBy
   takenBy-agreeing room = rw agreeing′
 
@@ -122,9 +122,9 @@ module _ (c : Connection) (agreeing′ : c .phase ≡ 2) where
                             sender = record { length = 0; acked = 0; high = 0; next = 0; oldest = 0; count = 0; wait = 0; hold = 0; gap = 0 };
                             receiver =
                                 record {
-                                  at = record { expected = 0; discarding = false; begun = record { length = 0 }; fill = 0 };
-                                  back = record { expected = 0; discarding = false; begun = record { length = 0 }; fill = 0 };
-                                  complete = record { length = 0 };
+                                  at = record { expected = 0; discarding = false; begun = record { length = 0; flags = 0 }; fill = 0 };
+                                  back = record { expected = 0; discarding = false; begun = record { length = 0; flags = 0 }; fill = 0 };
+                                  complete = record { length = 0; flags = 0 };
                                   ack = record { due = false; ready = false; number = 0 };
                                 };
                             tests = record { out = false; again = false; wait = 0; unanswered = 0; interval = c .settings .«t_ct» };

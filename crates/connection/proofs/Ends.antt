@@ -127,27 +127,28 @@ module _ (c : Connection) (open′ : c .phase ≡ 3) where
   sentBy-open limit n = rw open′
 
   -- row 5, "take with none complete"; then row 7, "lent buffer shorter than the declared length": nothing changes
-  pub takenBy-none : (room : ℕ) → c .end .channel .receiver .complete .length ≡ 0 → takenBy c room ≡ record { told = plainly Busy 5; len = 0; connection = c }
+  pub takenBy-none : (room : ℕ) → c .end .channel .receiver .complete .length ≡ 0 → takenBy c room ≡ record { told = plainly Busy 5; len = 0; flags = 0; connection = c }
   unfolding takenBy openTaken takenAt took
   takenBy-none room z = rw (open′, z)
 
-  pub takenBy-short : (room : ℕ) → room < c .end .channel .receiver .complete .length → takenBy c room ≡ record { told = plainly ShortBuffer 7; len = 0; connection = c }
+  pub takenBy-short : (room : ℕ) → room < c .end .channel .receiver .complete .length → takenBy c room ≡ record { told = plainly ShortBuffer 7; len = 0; flags = 0; connection = c }
   unfolding takenBy openTaken takenAt took
   takenBy-short room h = rw (open′, lt-ltb 0 (c .end .channel .receiver .complete .length) (omega arith), lt-ltb _ _ h)
 
-  -- else all of the message is shown, and none is complete any more
+  -- else all of the message is shown, with its flags, and none is complete any more
   pub takenBy-shown : (room : ℕ) → (let r = c .end .channel .receiver in
       0 < r .complete .length → r .complete .length ≤ room
       → takenBy c room
       ≡ record {
         told = plainly Good 0;
         len = r .complete .length;
+        flags = r .complete .flags;
         connection =
             holding c
             (record {
               parameters = c .end .channel .parameters;
               sender = c .end .channel .sender;
-              receiver = record { at = r .at; back = r .back; complete = record { length = 0 }; ack = r .ack };
+              receiver = record { at = r .at; back = r .back; complete = record { length = 0; flags = 0 }; ack = r .ack };
               tests = c .end .channel .tests;
               accept = c .end .channel .accept;
             });

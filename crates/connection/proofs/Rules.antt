@@ -86,7 +86,7 @@ module _ (c : Connection) (closed′ : c .phase ≡ 0) where
   unfolding sentBy
   sentBy-closed limit n = rw closed′
 
-  pub takenBy-closed : (room : ℕ) → takenBy c room ≡ record { told = plainly NotDue 4; len = 0; connection = c }
+  pub takenBy-closed : (room : ℕ) → takenBy c room ≡ record { told = plainly NotDue 4; len = 0; flags = 0; connection = c }
   unfolding takenBy
   takenBy-closed room = rw closed′
 
@@ -262,7 +262,7 @@ module _ (c : Connection) (requesting′ : c .phase ≡ 1) where
   unfolding sentBy
   sentBy-requesting limit n = rw requesting′
 
-  pub takenBy-requesting : (room : ℕ) → takenBy c room ≡ record { told = plainly NotDue 4; len = 0; connection = c }
+  pub takenBy-requesting : (room : ℕ) → takenBy c room ≡ record { told = plainly NotDue 4; len = 0; flags = 0; connection = c }
   unfolding takenBy
   takenBy-requesting room = rw requesting′
 

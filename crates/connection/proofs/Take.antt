@@ -7,6 +7,8 @@ use mathlib.Core.List.{List}
 use lib.ListN.{length, take}
 use denote.Ref.{RefT, now}
 use Rattle.laws.proofs.Cases.{by-not}
+use Rattle.telegram.specs.declared.cutting.Message.{Message}
+use Rattle.telegram.specs.Cutting.{none}
 use Rattle.receiver.specs.Receiving.{waiting, shown}
 use Rattle.open_end.proofs.Take.{taken-leaves}
 use Rattle.connection.specs.Record.{isOpen, withOpenEnd}
@@ -15,11 +17,11 @@ use Rattle.connection.specs.declared.Connection.{Connection}
 use Rattle.connection.specs.declared.TakeStep.{TakeStep}
 
 module _ (c : Connection) (room : ℕ) where
-  -- what a take leaves: with 0 the complete message is shown, whole, and waits no more; with any other number none is shown, and nothing changes
+  -- what a take leaves: with 0 the complete message is shown, whole and with its flags, and waits no more; with any other number none is shown, and nothing changes
   pub record Leaves (t : TakeStep) : Type 0 where
     pub within : t .len ≤ room
-    pub shown : t .told .said .number ≡ 0 → (t .len ≡ c .end .channel .receiver .complete .length) × (waiting (t .connection .end .channel .receiver) ≡ false)
-    pub refuses : (t .told .said .number ≡ 0 → ⊥) → (t .len ≡ 0) × (t .connection ≡ c)
+    pub shown : t .told .said .number ≡ 0 → (record { length = t .len; flags = t .flags } ≡ c .end .channel .receiver .complete) × (waiting (t .connection .end .channel .receiver) ≡ false)
+    pub refuses : (t .told .said .number ≡ 0 → ⊥) → (record { length = t .len; flags = t .flags } ≡ none) × (t .connection ≡ c)
 
   pub take-leaves : Leaves (takenBy c room)
   unfolding takenBy openTaken
@@ -33,6 +35,9 @@ module _ (c : Connection) (room : ℕ) where
         refuses = λ other. (taken .refuses other .0, ap (withOpenEnd c) (taken .refuses other .1));
       })
 
--- a take answered 0 shows the receiver's message
+-- a take answered 0 shows the receiver's message, and reports its flags
 pub take-shown : (c : Connection) (b : RefT (List ℕ)) → takes c b .told .said .number ≡ 0 → takes c b .message ≡ shown (c .end .channel .receiver) (now b)
-take-shown c b e = ap (λ (n : ℕ). take n (now b)) (take-leaves c (length (now b)) .shown e .0)
+take-shown c b e = ap (λ (m : Message). take (m .length) (now b)) (take-leaves c (length (now b)) .shown e .0)
+
+pub take-flags : (c : Connection) (b : RefT (List ℕ)) → takes c b .told .said .number ≡ 0 → takes c b .flags ≡ c .end .channel .receiver .complete .flags
+take-flags c b e = ap (λ (m : Message). m .flags) (take-leaves c (length (now b)) .shown e .0)

@@ -10,9 +10,11 @@ use Rattle.opening.specs.Opening.{requestId, requestOf, replyRead}
 use Rattle.telegram.specs.Kinds.{badBlock, sorted, setupOf, disconnectOf}
 use Rattle.opening.specs.declared.Reply.{Reply}
 use Rattle.opening.specs.declared.Reply.the-variants.{Positive, Refused as RefusedBy, Malformed as NoReply}
+use Rattle.telegram.specs.declared.cutting.Message.{Message}
 use Rattle.telegram.specs.declared.kinds.Parameters.{Parameters as Fields}
 use Rattle.telegram.specs.declared.kinds.Telegram.{Telegram}
 use Rattle.telegram.specs.declared.kinds.Telegram.the-variants.{Data, Ack, Test, Break, Disconnect, Setup, Accept, Malformed as NoTelegram}
+use Rattle.telegram.specs.Cutting.{none}
 use Rattle.settings.specs.Settings.{allowed}
 use Rattle.settings.specs.declared.Settings.{Settings}
 use Rattle.channel.specs.declared.Answer.{Answer as ChannelAnswer}
@@ -52,9 +54,9 @@ handOver f c = record { told = told (Channel Good); given = true; frame = f; con
 abbrev pub handNothing : Connection → Due
 handNothing c = record { told = told (Channel Good); given = false; frame = noFrame; connection = c }
 
--- an answer with the length of what a take shows
-abbrev pub shows : ChannelAnswer → (len : ℕ) → Connection → TakeStep
-shows a len c = record { told = told (Channel a); len = len; connection = c }
+-- an answer with the length and the flags of what a take shows
+abbrev pub shows : ChannelAnswer → Message → Connection → TakeStep
+shows a m c = record { told = told (Channel a); len = m .length; flags = m .flags; connection = c }
 
 -- ---- open
 
@@ -195,15 +197,16 @@ sentBy limit c n = if not (isOpen c) then gives NotDue c else openSent limit c n
 
 -- an open end's message is taken
 unfoldable pub openTaken : Connection → (room : ℕ) → TakeStep
-openTaken c room = (let t = takenAt (c .end) room in shows (t .answer) (t .len) (withOpenEnd c (t .end)))
+openTaken c room = (let t = takenAt (c .end) room in shows (t .answer) (t .message) (withOpenEnd c (t .end)))
 
 -- take, lent a buffer of room bytes: 4 unless open, then 5, 7
 unfoldable pub takenBy : Connection → (room : ℕ) → TakeStep
-takenBy c room = if not (isOpen c) then shows NotDue 0 c else openTaken c room
+takenBy c room = if not (isOpen c) then shows NotDue none c else openTaken c room
 
--- what a caller sees of a take: where the message's first byte lies, and its bytes
+-- what a caller sees of a take: the message's flags, where its first byte lies, and its bytes
 pub record Look : Type 0 where
   pub told : Told
+  pub flags : ℕ
   pub connection : Connection
   pub place : ℕ × ℕ
   pub message : List ℕ
@@ -212,11 +215,11 @@ pub record Look : Type 0 where
 abbrev pub takes : Connection → (buffer : RefT (List ℕ)) → Look
 takes c b =
     (let t = takenBy c (length (now b)) in
-    record { told = t .told; connection = t .connection; place = b .ptr; message = take (t .len) (now b) })
+    record { told = t .told; flags = t .flags; connection = t .connection; place = b .ptr; message = take (t .len) (now b) })
 
 -- a take's result, as it is seen
 abbrev pub looked : Taken → Look
-looked t = record { told = t .told; connection = t .connection; place = t .message .ptr; message = now (t .message) }
+looked t = record { told = t .told; flags = t .flags; connection = t .connection; place = t .message .ptr; message = now (t .message) }
 
 -- close: 4 on a closed record; what is unfinished is dropped, and one A8 is due if the transmit ID is known
 unfoldable pub closed : Connection → Answered

@@ -29,6 +29,8 @@ use opening::Reply;
 use opening::read_reply;
 use opening::write_request;
 use settings::Settings;
+use telegram::cutting::Message;
+use telegram::cutting::NONE;
 use telegram::kinds::Parameters as Fields;
 use telegram::kinds::Telegram;
 use telegram::kinds::bad_block;
@@ -81,16 +83,18 @@ pub struct Due {
     pub connection: Connection,
 }
 
-// What taking a message comes to: where it is shown, len is its declared length, and else 0.
+// What taking a message comes to: where it is shown, len is its declared length and flags are its flags, and else both are 0.
 pub struct TakeStep {
     pub told: Told,
     pub len: usize,
+    pub flags: u16,
     pub connection: Connection,
 }
 
-// A message taken: the first part of the lent buffer, and nothing of it where none is shown.
+// A message taken: the first part of the lent buffer, and nothing of it where none is shown; its flags, and 0 there.
 pub struct Taken<'a> {
     pub told: Told,
+    pub flags: u16,
     pub connection: Connection,
     pub message: &'a [u8],
 }
@@ -177,12 +181,13 @@ impl Connection {
     }
 
     // What a take comes to, with this record left.
-    fn shows(self, answer: channel::Answer, len: usize) -> TakeStep
-        ensures { λ r. ⌜ r ≡ shows answer len self ⌝ }
+    fn shows(self, answer: channel::Answer, message: Message) -> TakeStep
+        ensures { λ r. ⌜ r ≡ shows answer message self ⌝ }
     {
         TakeStep {
             told: tell(Answer::Channel(answer)),
-            len,
+            len: message.length as usize,
+            flags: message.flags,
             connection: self,
         }
     }
@@ -545,7 +550,7 @@ impl Connection {
         ensures { λ r. ⌜ r ≡ takenBy self room ⌝ }
     {
         if !self.is_open() {
-            return self.shows(channel::Answer::NotDue, 0);
+            return self.shows(channel::Answer::NotDue, NONE);
         }
         self.open_takes(room)
     }
@@ -557,9 +562,10 @@ impl Connection {
         let end = self.end;
         let t = end.take_step(room);
         let answer = t.answer;
+        let message = t.message;
         let next = t.end;
         self.end = next;
-        self.shows(answer, t.len)
+        self.shows(answer, message)
     }
 
     // Takes the complete message: it is shown as the first part of the lent buffer.
@@ -570,6 +576,7 @@ impl Connection {
         let message = shown(buffer, step.len);
         Taken {
             told: step.told,
+            flags: step.flags,
             connection: step.connection,
             message,
         }

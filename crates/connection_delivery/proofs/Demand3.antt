@@ -1,5 +1,5 @@
 -- Demand 3 and 02, 14 for two connection records.
-use Prim.Native.Nat.{ℕ, _<_}
+use Prim.Native.Nat.{ℕ, _≤_}
 use Rattle.delivery.specs.Laws.{Carried, TwoEnds}
 use Rattle.delivery.proofs.Demand3.{demand3 as any-demand3}
 use Rattle.delivery.proofs.BothWays.{both-ways as any-both-ways}
@@ -7,7 +7,7 @@ use Rattle.connection_delivery.specs.Ends.{connectionEnd, Demand3OfRecor
 use Rattle.connection_delivery.proofs.Lawful.{Tied, connection-lawful}
 
 -- two records
-abbrev twoRecords : (limit : ℕ) → limit < 65536 → TwoEnds
+abbrev twoRecords : (limit : ℕ) → limit ≤ 4095 → TwoEnds
 twoRecords limit small =
     record {
       limit = limit;

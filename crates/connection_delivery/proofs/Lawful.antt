@@ -19,13 +19,13 @@ use Rattle.channel.proofs.Passing.{elapsed-settles, sent-goes-on}
 use Rattle.channel.proofs.Handing.{due-goes-on}
 use Rattle.arrival.proofs.Arriving.{arrived-settles}
 use Rattle.open_end.specs.declared.Course.the-variants.{GoesOn, GivenUp}
-use Rattle.open_end.specs.OpenEnd.{withChannel, courseOf, sentAt, takeAnswer, lengthShown, takenAt, elapsedAt, frameOn, dueAt, arrivedAt, bufferedAt}
+use Rattle.open_end.specs.OpenEnd.{withChannel, courseOf, sentAt, takeAnswer, takenAt, elapsedAt, frameOn, dueAt, arrivedAt, bufferedAt}
 use Rattle.connection.specs.declared.Connection.{Connection}
 use Rattle.connection.specs.Record.{isOpen, closedRecord, withOpenEnd}
 use Rattle.connection.specs.Calls.{settled, openSent, openTaken, openElapsed, openDue, onOpen}
 use Rattle.connection.proofs.Rules.{sentBy-closed, takenBy-closed, elapsed-closed, dueOf-closed, arrived-closed, buffered-closed}
 use Rattle.delivery.specs.End.{End}
-use Rattle.delivery.specs.Line.{Line, lineAfter, lineSend, takeNumber, takeShown, lineTake, lineTime, lineDue, lineArrive, lineBuffered}
+use Rattle.delivery.specs.Line.{Line, lineAfter, lineSend, takeNumber, lineTake, lineTime, lineDue, lineArrive, lineBuffered}
 use Rattle.delivery.specs.Laws.{Tells, Shows, Hands, Carried, Lawful}
 use Rattle.connection_delivery.specs.Ends.{connectionEnd}
 use Rattle.delivery.proofs.DueKinds.{due-carried}
@@ -60,16 +60,11 @@ module _ (c : Connection) (o : isOpen c ≡ true) (ch : Channel) where
       go true = closed
       go false = goes-on
 
--- a take's number, and the length that it shows
+-- a take's number
 take-number : (n : Taking) → said (takeAnswer n) .number ≡ takeNumber n
 take-number Shown = refl
 take-number NoneComplete = refl
 take-number ShortBuffer = refl
-
-take-shown : (n : Taking) (size : ℕ) → lengthShown n size ≡ takeShown n size
-take-shown Shown size = refl
-take-shown NoneComplete size = refl
-take-shown ShortBuffer size = refl
 
 -- ---- call by call
 
@@ -87,8 +82,8 @@ module _ (limit : ℕ) where
   unfolding openTaken takenAt
   take-shows (open′ c o) room =
       let note = took (c .end .channel .receiver) room .note in
-      rw (taken-open c o room) (record { number = take-number note; shown = take-shown note _; tied = goes-on c o _ })
-  take-shows closed room = rw (takenBy-closed closedRecord refl room) (record { number = refl; shown = refl; tied = closed })
+      rw (taken-open c o room) (record { number = take-number note; message = refl; tied = goes-on c o _ })
+  take-shows closed room = rw (takenBy-closed closedRecord refl room) (record { number = refl; message = refl; tied = closed })
 
   time-tells : {r t : ℕ} {c : Connection} {l : Line} → Tied r t c l → (n : ℕ) → Tells (Tied r t) (E .time c n) (lineTime l n)
   unfolding openElapsed elapsedAt

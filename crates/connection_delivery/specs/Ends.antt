@@ -1,5 +1,5 @@
 -- The connection record as an end of `delivery`: each call by the very definition of its contract.
-use Prim.Native.Nat.{ℕ, _<_}
+use Prim.Native.Nat.{ℕ, _≤_}
 use Rattle.telegram.specs.Outgoing.{bytesOf}
 use Rattle.open_end.specs.declared.answers.Said.{Said}
 use Rattle.connection.specs.declared.Connection.{Connection}
@@ -17,7 +17,7 @@ tells s c = record { number = s .number; done = s .done; state = c }
 
 -- the same of a take
 abbrev pub shows : TakeStep → Taken Connection
-shows t = record { number = t .told .said .number; shown = t .len; state = t .connection }
+shows t = record { number = t .told .said .number; message = record { length = t .len; flags = t .flags }; state = t .connection }
 
 -- the same of what is due: the frame's ID and bytes
 abbrev pub hands : Due → Given Connection
@@ -40,10 +40,10 @@ connectionEnd limit =
       transmits = λ c. c .end .transmit;
     }
 
--- demand 3, of two records, for every limit on lengths that two length bytes can say
+-- demand 3, of two records, for every limit on lengths that twelve bits can say
 abbrev pub Demand3OfRecords : Type 0
-Demand3OfRecords = (limit : ℕ) → limit < 65536 → Demand3Holds (connectionEnd limit) (connectionEnd limit)
+Demand3OfRecords = (limit : ℕ) → limit ≤ 4095 → Demand3Holds (connectionEnd limit) (connectionEnd limit)
 
 -- 02, 14, of two records
 abbrev pub BothWaysOfRecords : Type 0
-BothWaysOfRecords = (limit : ℕ) → limit < 65536 → BothWaysHolds (connectionEnd limit) (connectionEnd limit)
+BothWaysOfRecords = (limit : ℕ) → limit ≤ 4095 → BothWaysHolds (connectionEnd limit) (connectionEnd limit)

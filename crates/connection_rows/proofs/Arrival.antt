@@ -1,5 +1,5 @@
 -- A frame that arrives: the call says and leaves what `arrivalTable` tells.
-use Prim.Native.Nat.{ℕ, _+_, _-_, _≤_, _<_}
+use Prim.Native.Nat.{ℕ, _+_, _-_, _*_, _/_, _%_, _≤_, _<_}
 use native.Mathlib.Omega.{arith}
 use mathlib.Core.Bool.{Bool, true, false, not, _&&_, _||_, or-false}
 use mathlib.Core.List.{List}
@@ -16,13 +16,13 @@ use Rattle.opening.specs.Opening.{replyRead}
 use Rattle.opening.specs.declared.Reply.{Reply}
 use Rattle.telegram.specs.declared.kinds.Telegram.{Telegram}
 use Rattle.telegram.specs.declared.kinds.Telegram.the-variants.{Data, Ack, Test, Break, Disconnect, Setup, Accept, Malformed}
-use Rattle.telegram.specs.Cutting.{declaredOf, framesOf}
+use Rattle.telegram.specs.Cutting.{framesOf}
 use Rattle.sender.specs.Sending.{distance, heldFor, again, finished, acknowledged}
 use Rattle.sender.specs.declared.Terms.{Terms}
 use Rattle.sender.specs.declared.Sender.{Sender}
 use Rattle.sender.specs.declared.Heard.{Heard}
 use Rattle.sender.proofs.Acks.{Counts, Stalls, AckCase, no-message, in-hold, repeated, beyond, ack-used-up, held-back, all-acked, part-acked, heard-ack, ackCase}
-use Rattle.receiver.specs.declared.Message.{Message}
+use Rattle.telegram.specs.declared.cutting.Message.{Message}
 use Rattle.receiver.specs.declared.Receiver.{Receiver}
 use Rattle.receiver.specs.declared.Received.{Received}
 use Rattle.receiver.specs.declared.Cause.{Cause}
@@ -42,7 +42,7 @@ use Rattle.connection.specs.declared.Arrived.{Arrived}
 use Rattle.connection.specs.Record.{hears as listened}
 use Rattle.connection.specs.Calls.{brings, arrived, buffered, onReply, onAccept, onAgreeing, onOpen, settled}
 use Rattle.connection_rows.specs.Tables.{plain, row, Table, always, _orElse_, toldBy}
-use Rattle.connection_rows.specs.Records.{isClosed, isRequesting, isAgreeing, isOpen, closedRecord, onChannel}
+use Rattle.connection_rows.specs.Records.{isClosed, isRequesting, isAgreeing, isOpen, noneReceived, closedRecord, onChannel}
 use Rattle.connection_rows.specs.Rows.{numberedBy, atFirst, writtenAt, isData, isAck, numberIn, asksAck, isLast, isReady, otherId, outOfPlace, noMessage, isHolding, waitsUntaken, throwsAway, isJudged, shortLater, broken, shortFirst, askedForAck, thrownAway, receivingAfter, bufferAfter, arrivalTable, arriveSays}
 use Rattle.connection_rows.proofs.Bytes.{Only, telegram, by-kind, by-reply, data-bytes}
 use Rattle.connection_rows.proofs.Same.{other-same, tenths-same, smaller-same, ahead-same, acked-same, carried-same, copied-same}
@@ -109,7 +109,7 @@ module _ (limit : ℕ) (c : Connection) (id : ℕ) (s b : List ℕ) where
       row (ltb (m .length) fill || not (isLast s) && leb (m .length) fill || isLast s && ltb fill (m .length)) 9 (thrownAway c s, b)
       orElse row (ltb (length b) (m .length)) 7 (thrownAway c s, b)
       orElse always (plain 0) (
-        onChannel c (restarted (withReceiver ch (if isLast s then numberedBy c s false 0 0 (m .length) else numberedBy c s false (m .length) fill (receiving .complete .length)))),
+        onChannel c (restarted (withReceiver ch (if isLast s then numberedBy c s false noneReceived 0 m else numberedBy c s false m fill (receiving .complete)))),
         written,
       )
 
@@ -117,12 +117,19 @@ module _ (limit : ℕ) (c : Connection) (id : ℕ) (s b : List ℕ) where
   unfolding throwsAway
   throws e = e
 
-  -- the length that a first frame declares, in the bytes behind its first and in all of them
-  declares : declaredBy (drop 1 s) ≡ declaredOf (getD s 1 0) (getD s 2 0)
+  -- the length that a first frame declares
+  abbrev first-length : ℕ
+  first-length = 256 * (getD s 1 0 % 16) + getD s 2 0
+
+  -- the same in the bytes behind its first and in all of them, and so its flags
+  declares : declaredBy (drop 1 s) .length ≡ first-length
   declares = rw (getD-drop 1 s 0 0, getD-drop 1 s 1 0)
 
-  declares-some : 1 ≤ declaredBy (drop 1 s) → eqb (declaredOf (getD s 1 0) (getD s 2 0)) 0 ≡ false
-  declares-some some = ne-eqb (declaredOf (getD s 1 0) (getD s 2 0)) 0 (λ z. let none = declares ∙ z in omega arith)
+  flags : declaredBy (drop 1 s) .flags ≡ getD s 1 0 / 16
+  flags = rw (getD-drop 1 s 0 0)
+
+  declares-some : 1 ≤ declaredBy (drop 1 s) .length → eqb first-length 0 ≡ false
+  declares-some some = ne-eqb first-length 0 (λ z. let none = declares ∙ z in omega arith)
 
   -- it has two length bytes or not
   longer : 2 ≤ length (drop 1 s) → eqb (length s) 2 ≡ false
@@ -144,7 +151,7 @@ module _ (limit : ℕ) (c : Connection) (id : ℕ) (s b : List ℕ) where
 
       message-rows : {m : Message} {fill : ℕ} → Brings limit receiving (drop 1 s) (length b) m fill → toldBy (messageRows m fill) ≡ toldBy dataRows
       message-rows (at-first f two some most) =
-          rw (placed, none-waits, is-judged, throws (o .not-discarding), f, declares, length-drop 1 s, behind (length s), longer two, declares-some some, le-ltb _ _ (rw declares at most))
+          rw (placed, none-waits, is-judged, throws (o .not-discarding), f, declares, flags, length-drop 1 s, behind (length s), longer two, declares-some some, le-ltb _ _ (rw declares at most))
       message-rows (at-later f held) = rw (placed, none-waits, is-judged, throws (o .not-discarding), f, length-drop 1 s, le-ltb _ _ held)
 
       -- what meets a message's rows, meets the data's

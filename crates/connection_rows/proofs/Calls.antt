@@ -30,7 +30,7 @@ use Rattle.open_end.specs.declared.Frame.{Frame}
 use Rattle.open_end.specs.declared.answers.Answer.the-variants.{Channel as ByChannel}
 use Rattle.open_end.specs.declared.answers.Said.{Said}
 use Rattle.open_end.specs.Answers.{said}
-use Rattle.open_end.specs.OpenEnd.{frameOn, withChannel, courseOf, elapsedAt, dueAt, sentAt, takeAnswer, lengthShown, takenAt}
+use Rattle.open_end.specs.OpenEnd.{frameOn, withChannel, courseOf, elapsedAt, dueAt, sentAt, takeAnswer, takenAt}
 use Rattle.connection.specs.declared.Connection.{Connection}
 use Rattle.connection.specs.declared.Answered.{Answered}
 use Rattle.connection.specs.declared.Due.{Due}
@@ -177,13 +177,12 @@ module _ (limit : ℕ) (c : Connection) (n : ℕ) where
   send-told = by-not (Makes tells _) (isOpen c) (λ e. rw e) (λ e. offered-told e (offerCase limit sending n) (send-outcome limit (c .end .channel) n))
 
 module _ (c : Connection) (room : ℕ) where
-  abbrev looks : TakeStep → Said × (ℕ × Connection)
-  looks r = (r .told .said, (r .len, r .connection))
+  abbrev looks : TakeStep → Said × (ℕ × ℕ × Connection)
+  looks r = (r .told .said, (r .len, r .flags, r .connection))
 
   -- on an open connection
   taken-told : isOpen c ≡ true → {t : Took} → TakeOutcome (c .end .channel .receiver) room t
-      → looks (shows (takeAnswer (t .note)) (lengthShown (t .note) (c .end .channel .receiver .complete .length)) (onChannel c (withReceiver (c .end .channel) (t .receiver))))
-      ≡ toldBy (takeTable c room)
+      → looks (shows (takeAnswer (t .note)) (t .message) (onChannel c (withReceiver (c .end .channel) (t .receiver)))) ≡ toldBy (takeTable c room)
   taken-told open′ (none-complete none) = rw (open′, none)
   taken-told open′ (short-buffer some short) = rw (open′, some, lt-ltb _ _ short)
   taken-told open′ (whole-shown some fits) = rw (open′, some, le-ltb _ _ fits)

@@ -20,7 +20,8 @@ demand1 =
       close = λ c. record { tells = close-told c; exactly = close-row c };
       shows = λ c b. ap (λ x. take (x .1 .0) (now b)) (take-told c (length (now b)));
       lies = λ c b. refl;
-      looks = λ c b. let e = take-told c (length (now b)) in (ap (λ x. x .0) e, ap (λ x. x .1 .1) e);
+      reports = λ c b. ap (λ x. x .1 .1) (take-told c (length (now b)));
+      looks = λ c b. let e = take-told c (length (now b)) in (ap (λ x. x .0) e, ap (λ x. x .1 .2) e);
       keeps = arrive-keeps-buffer;
       done = arrive-done;
       opcode = arrive-opcode;

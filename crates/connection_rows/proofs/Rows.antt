@@ -10,6 +10,7 @@ use lib.Dec.{eqb}
 use borrow.Author.Tests.{ne-eqb, not-true}
 use Rattle.laws.specs.If.{if_then_else_}
 use Rattle.laws.proofs.Cases.{either, and-first, and-second, or-first, or-second}
+use Rattle.telegram.specs.declared.cutting.Message.{Message}
 use Rattle.settings.specs.declared.Settings.{Settings}
 use Rattle.open_end.specs.declared.answers.Said.{Said}
 use Rattle.connection.specs.declared.Connection.{Connection}
@@ -200,16 +201,19 @@ module _ (c : Connection) (room : ℕ) where
   pub take-row : (n : ℕ) → (takeSays c room .0 .number ≡ n) ↔ Given n (takeSays c room .1) (takeTable c room)
   take-row = given (takeTable c room) (take-told c room)
 
-  pub take-row-0 : Says 0 (c .end .channel .receiver .complete .length, onReceiver c (messageTaken (c .end .channel .receiver))) (takeSays c room) (takeTable c room)
+  abbrev complete : Message
+  complete = c .end .channel .receiver .complete
+
+  pub take-row-0 : Says 0 (complete .length, complete .flags, onReceiver c (messageTaken (c .end .channel .receiver))) (takeSays c room) (takeTable c room)
   take-row-0 = says _ (take-told c room) 0 refl
 
-  pub take-row-4 : Says 4 (0, c) (takeSays c room) (takeTable c room)
+  pub take-row-4 : Says 4 (0, 0, c) (takeSays c room) (takeTable c room)
   take-row-4 = says _ (take-told c room) 4 (λ _. refl, tt)
 
-  pub take-row-5 : Says 5 (0, c) (takeSays c room) (takeTable c room)
+  pub take-row-5 : Says 5 (0, 0, c) (takeSays c room) (takeTable c room)
   take-row-5 = says _ (take-told c room) 5 (λ _. refl, tt)
 
-  pub take-row-7 : Says 7 (0, c) (takeSays c room) (takeTable c room)
+  pub take-row-7 : Says 7 (0, 0, c) (takeSays c room) (takeTable c room)
   take-row-7 = says _ (take-told c room) 7 (λ _. refl, tt)
 
 -- ---- close

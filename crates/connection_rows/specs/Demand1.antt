@@ -47,11 +47,13 @@ pub record Demand1 : Type 0 where
       (c : Connection) (buffer : RefT (List ℕ)) →
       takes c buffer .message ≡ take (toldBy (takeTable c (length (now buffer))) .1 .0) (now buffer)
   pub lies : (c : Connection) (buffer : RefT (List ℕ)) → takes c buffer .place ≡ buffer .ptr
+  -- the reader "reports the four flags with the message" (02, request 1): those that the table tells
+  pub reports : (c : Connection) (buffer : RefT (List ℕ)) → takes c buffer .flags ≡ toldBy (takeTable c (length (now buffer))) .1 .1
   -- and the take says and leaves what the table tells
   pub looks :
       (c : Connection) (buffer : RefT (List ℕ)) →
       (takes c buffer .told .said ≡ toldBy (takeTable c (length (now buffer))) .0)
-      × (takes c buffer .connection ≡ toldBy (takeTable c (length (now buffer))) .1 .1)
+      × (takes c buffer .connection ≡ toldBy (takeTable c (length (now buffer))) .1 .2)
   -- "A refusal never writes to the buffer"
   pub keeps :
       (limit : ℕ) (c : Connection) (id : ℕ) (s b : List ℕ) →

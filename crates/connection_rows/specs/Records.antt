@@ -3,6 +3,7 @@ use Prim.Native.Nat.{ℕ, zero, suc, _*_, _/_, _%_}
 use mathlib.Core.Bool.{Bool, true, false, not, _||_}
 use lib.Dec.{ltb, eqb}
 use Rattle.laws.specs.If.{if_then_else_}
+use Rattle.telegram.specs.declared.cutting.Message.{Message}
 use Rattle.settings.specs.declared.Settings.{Settings}
 use Rattle.sender.specs.declared.Terms.{Terms}
 use Rattle.sender.specs.declared.Sender.{Sender}
@@ -35,14 +36,18 @@ isOpen c = not (isClosed c || isRequesting c || isAgreeing c)
 
 -- ---- whole records
 
+-- no message begun or complete: it has no length and no flags
+abbrev pub noneReceived : Message
+noneReceived = record { length = 0; flags = 0 }
+
 -- nothing received and nothing in sending: "all numbers start at 0, and no message received or in sending, due frame, wait or hold remains"
 abbrev pub freshChannel : Parameters → Channel
 freshChannel p =
-    (let start : Standing = record { expected = 0; discarding = false; begun = record { length = 0 }; fill = 0 } in
+    (let start : Standing = record { expected = 0; discarding = false; begun = noneReceived; fill = 0 } in
     record {
       parameters = p;
       sender = record { length = 0; acked = 0; high = 0; next = 0; oldest = 0; count = 0; wait = 0; hold = 0; gap = 0 };
-      receiver = record { at = start; back = start; complete = record { length = 0 }; ack = record { due = false; ready = false; number = 0 } };
+      receiver = record { at = start; back = start; complete = noneReceived; ack = record { due = false; ready = false; number = 0 } };
       tests = record { out = false; again = false; wait = 0; unanswered = 0; interval = p .interval };
       accept = false;
     })

@@ -7,6 +7,7 @@ use mathlib.Core.List.{List, [], _∷_, _++_}
 use lib.ListN.{length, take, drop, getD, replicate}
 use lib.Dec.{ltb, leb, eqb}
 use Rattle.laws.specs.If.{if_then_else_}
+use Rattle.telegram.specs.declared.cutting.Message.{Message}
 use Rattle.telegram.specs.declared.payload.Payload.{Payload}
 use Rattle.settings.specs.declared.Settings.{Settings}
 use Rattle.sender.specs.declared.Sender.{Sender}
@@ -20,7 +21,7 @@ use Rattle.open_end.specs.declared.answers.Said.{Said}
 use Rattle.connection.specs.declared.attempt.Attempt.{Attempt}
 use Rattle.connection.specs.declared.Connection.{Connection}
 use Rattle.connection.specs.Calls.{opening, arrived, buffered, elapsed, dueOf, sentBy, takenBy, closed}
-use Rattle.connection_rows.specs.Records.{isClosed, isRequesting, isAgreeing, isOpen, closedRecord, leavingOn, asking, openedBy, onAttempt, onChannel, channelOf, onSender, onReceiver}
+use Rattle.connection_rows.specs.Records.{isClosed, isRequesting, isAgreeing, isOpen, noneReceived, closedRecord, leavingOn, asking, openedBy, onAttempt, onChannel, channelOf, onSender, onReceiver}
 use Rattle.connection_rows.specs.Tables.{plain, row, Table, always, _orElse_}
 
 -- ---- the kinds of frame, by their bytes
@@ -177,9 +178,17 @@ isJudged c s = inOrder c s && not (throwsAway c)
 abbrev pub atFirst : Connection → Bool
 atFirst c = eqb (c .end .channel .receiver .at .begun .length) 0
 
--- the declared length of the message that data belongs to: "Two length bytes, high first"
+-- the declared length of the message that data belongs to: "Two length bytes, high first"; "The reader now takes the low 12 bits as length" (02, request 1)
 abbrev pub declared : Connection → List ℕ → ℕ
-declared c s = if atFirst c then 256 * getD s 1 0 + getD s 2 0 else c .end .channel .receiver .at .begun .length
+declared c s = if atFirst c then 256 * (getD s 1 0 % 16) + getD s 2 0 else c .end .channel .receiver .at .begun .length
+
+-- its flags: "on the unit's first frame the high nibble of that byte holds flags" (02, request 1), and a later frame's are those of the message begun
+abbrev pub flagsOf : Connection → List ℕ → ℕ
+flagsOf c s = if atFirst c then getD s 1 0 / 16 else c .end .channel .receiver .at .begun .flags
+
+-- that message
+abbrev pub messageOf : Connection → List ℕ → Message
+messageOf c s = record { length = declared c s; flags = flagsOf c s }
 
 -- the message's bytes with those of this data: "length bytes left out"
 abbrev pub reached : Connection → List ℕ → ℕ
@@ -189,7 +198,7 @@ reached c s = if atFirst c then length s - 3 else c .end .channel .receiver .at 
 abbrev pub shortLater : Connection → List ℕ → (room : ℕ) → Bool
 shortLater c s room = isJudged c s && not (atFirst c) && ltb room (declared c s)
 
--- row 9, "broken at the first of: a first frame of 2 bytes; declared length 0 or over 1,024; bytes beyond the declared length; no EOM though the bytes have reached it; EOM with too few"
+-- row 9, "broken at the first of: a first frame of 2 bytes; declared length 0 or over 1,024; bytes beyond the declared length; no EOM though the bytes have reached it; EOM with too few"; "Lengths 0 and 1,025 to 4,095 stay answer 9" (02, request 1)
 abbrev pub broken : (limit : ℕ) → Connection → List ℕ → Bool
 broken limit c s =
     isJudged c s
@@ -216,23 +225,23 @@ askedForAck c s =
     let asks = isData s && asksAck s in
     onReceiver c (record { at = r .at; back = if asks then r .at else r .back; complete = r .complete; ack = ackThen c asks (r .at .expected) }))
 
--- a frame that is numbered leaves the next number expected, the message begun with its bytes so far, and a complete message or none;
+-- a frame that is numbered leaves the next number expected, the message begun with its flags and its bytes so far, and a complete message or none;
 -- a break returns to "where it stood when an Ack last became due or a message last ended, whichever is later"
-abbrev pub numberedBy : Connection → List ℕ → (discarding : Bool) → (begun fill complete : ℕ) → Receiver
+abbrev pub numberedBy : Connection → List ℕ → (discarding : Bool) → (begun : Message) → (fill : ℕ) → (complete : Message) → Receiver
 numberedBy c s discarding begun fill complete =
     (let r = c .end .channel .receiver in
     let expected = (r .at .expected + 1) % 16 in
-    let standing : Standing = record { expected = expected; discarding = discarding; begun = record { length = begun }; fill = fill } in
+    let standing : Standing = record { expected = expected; discarding = discarding; begun = begun; fill = fill } in
     record {
       at = standing;
       back = if asksAck s || isLast s then standing else r .back;
-      complete = record { length = complete };
+      complete = complete;
       ack = ackThen c (asksAck s) expected;
     })
 
 -- the receiving half after data that is "thrown away", and "if it had no EOM, the following .. up to and including the next EOM"
 abbrev pub thrown : Connection → List ℕ → Receiver
-thrown c s = numberedBy c s (not (isLast s)) 0 0 (c .end .channel .receiver .complete .length)
+thrown c s = numberedBy c s (not (isLast s)) noneReceived 0 (c .end .channel .receiver .complete)
 
 -- "thrown away": "That frame is numbered and writes nothing"
 abbrev pub thrownAway : Connection → List ℕ → Connection
@@ -270,10 +279,10 @@ sendingAfter c s =
 abbrev pub receivingAfter : Connection → List ℕ → Receiver
 receivingAfter c s =
     if throwsAway c then thrown c s
-    else if isLast s then numberedBy c s false 0 0 (declared c s)
-    else numberedBy c s false (declared c s) (reached c s) (c .end .channel .receiver .complete .length)
+    else if isLast s then numberedBy c s false noneReceived 0 (messageOf c s)
+    else numberedBy c s false (messageOf c s) (reached c s) (c .end .channel .receiver .complete)
 
--- "the receiver returns to where it stood ..; a complete message stays, a taken one stays taken"
+-- "the receiver returns to where it stood ..; a complete message stays, a taken one stays taken", and a message begun there has its own flags again
 abbrev pub breakReturns : Receiver → Receiver
 breakReturns r = record { at = r .back; back = r .back; complete = r .complete; ack = r .ack }
 
@@ -493,13 +502,13 @@ withAR block n k = eqb (block * ((k + 1) / block)) (k + 1) || isEnd n k
 unfoldable pub firstByte : (asks last : Bool) → (number : ℕ) → ℕ
 firstByte asks last number = (if last then 0x10 else 0x00) + (if asks then 0x00 else 0x20) + number
 
--- "Two length bytes, high first, then the message, cut in sevens": the next of them behind its first byte, with its number counting on from the oldest unacknowledged frame's
+-- "Two length bytes, high first, then the message, cut in sevens": the next of them behind its first byte, with its number counting on from the oldest unacknowledged frame's; "the writer still sends flags 0" (02, request 1)
 abbrev pub dataOf : Channel → (m : List ℕ) → Payload
 dataOf ch m =
     (let s = ch .sender in
     padded
     (firstByte (withAR (ch .parameters .terms .block) (s .length) (s .next)) (isEnd (s .length) (s .next)) ((s .oldest + 15 * s .acked + s .next) % 16)
-    ∷ take 7 (drop (7 * s .next) (length m / 256 % 256 ∷ length m % 256 ∷ m))))
+    ∷ take 7 (drop (7 * s .next) (length m / 256 % 16 ∷ length m % 256 ∷ m))))
 
 -- data handed over: "At least the peer's T3 lies between data frames, running from each hand-over"; "After the frame with AR the sender waits its own T1"; the frames ever handed over are counted
 abbrev pub dataOut : Channel → Channel
@@ -553,19 +562,20 @@ sendSays limit c n = (sentBy limit c n .told .said, sentBy limit c n .connection
 
 -- the receiving half once its message is taken
 abbrev pub messageTaken : Receiver → Receiver
-messageTaken r = record { at = r .at; back = r .back; complete = record { length = 0 }; ack = r .ack }
+messageTaken r = record { at = r .at; back = r .back; complete = noneReceived; ack = r .ack }
 
--- "Take: 4, 5, 7": "take with none complete", "lent buffer shorter than the declared length"; what is shown has the declared length
-abbrev pub takeTable : Connection → (room : ℕ) → Table (ℕ × Connection)
+-- "Take: 4, 5, 7": "take with none complete", "lent buffer shorter than the declared length"; what is shown has the declared length, and the reader "reports the four flags with the message" (02, request 1); a refusal shows and reports none
+abbrev pub takeTable : Connection → (room : ℕ) → Table (ℕ × ℕ × Connection)
 takeTable c room =
-    row (not (isOpen c)) 4 (0, c)
-    orElse row (not (isWaiting c)) 5 (0, c)
-    orElse row (ltb room (c .end .channel .receiver .complete .length)) 7 (0, c)
-    orElse always (plain 0) (c .end .channel .receiver .complete .length, onReceiver c (messageTaken (c .end .channel .receiver)))
+    (let m = c .end .channel .receiver .complete in
+    row (not (isOpen c)) 4 (0, 0, c)
+    orElse row (not (isWaiting c)) 5 (0, 0, c)
+    orElse row (ltb room (m .length)) 7 (0, 0, c)
+    orElse always (plain 0) (m .length, m .flags, onReceiver c (messageTaken (c .end .channel .receiver))))
 
--- what a take says, the length that it shows, and what it leaves
-abbrev pub takeSays : Connection → (room : ℕ) → Said × (ℕ × Connection)
-takeSays c room = (takenBy c room .told .said, (takenBy c room .len, takenBy c room .connection))
+-- what a take says, the length that it shows, the flags that it reports, and what it leaves
+abbrev pub takeSays : Connection → (room : ℕ) → Said × (ℕ × ℕ × Connection)
+takeSays c room = (takenBy c room .told .said, (takenBy c room .len, takenBy c room .flags, takenBy c room .connection))
 
 -- "any .. close on a closed record" gives 4; "leaves one A8 due if the transmit ID is known, else nothing"
 abbrev pub closeTable : Connection → Table Connection

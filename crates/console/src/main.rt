@@ -330,9 +330,11 @@ impl Console {
         let taken = connection.take_step(self.room);
         let told = taken.told;
         let len = taken.len;
+        let flags = taken.flags;
         let next = taken.connection;
         let mut text = [0; 12320];
         let at = tell(&mut text, told);
+        let at = writing::flags(&mut text, at, (flags % 16) as u8);
         let end = writing::pairs(&mut text, at, shown(buffer, len));
         self.holding(next).say_line(&mut text, end)
     }
@@ -371,20 +373,20 @@ fn arrive(c: Connection, id: u16, bytes: &[u8], buffer: &mut [u8], room: usize) 
 fn tell(text: &mut [u8], told: Told) -> usize {
     let said = told.said;
     let at = writing::decimal(text, 0, said.number as u64);
-    let at = with_done(text, at, said.done);
-    with_opcode(text, at, said.number == 11, said.opcode)
-}
-
-fn with_done(text: &mut [u8], at: usize, done: bool) -> usize {
-    if done {
-        return writing::bytes(text, at, b" done");
-    }
-    at
+    let at = with_opcode(text, at, said.number == 11, said.opcode);
+    with_done(text, at, said.done)
 }
 
 fn with_opcode(text: &mut [u8], at: usize, carried: bool, opcode: u8) -> usize {
     if carried {
         return writing::pairs(text, at, &[opcode]);
+    }
+    at
+}
+
+fn with_done(text: &mut [u8], at: usize, done: bool) -> usize {
+    if done {
+        return writing::bytes(text, at, b" done");
     }
     at
 }

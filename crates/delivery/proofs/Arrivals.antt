@@ -4,7 +4,7 @@ use mathlib.Core.Bool.{Bool, true, false, not, _&&_, true≢false}
 use mathlib.Core.List.{List, [], _∷_, _++_, append-nil}
 use mathlib.Core.Path.{_≡_, refl, ap, subst, _∙_, sym}
 use lib.Dec.{eqb}
-use lib.ListN.{length, take as front, drop}
+use lib.ListN.{length, drop}
 use Rattle.laws.specs.If.{if_then_else_}
 use Rattle.telegram.specs.Kinds.{sorted}
 use Rattle.telegram.specs.declared.kinds.Telegram.{Telegram}
@@ -16,9 +16,10 @@ use Rattle.sender.specs.declared.Heard.{Heard}
 use Rattle.sender.specs.declared.Hearing.{Hearing}
 use Rattle.sender.specs.declared.Hearing.the-variants.{Part, Done as LastAcknowledged, Held, Nothing, UsedUp as NotReadyTooOften, NoAck}
 use Rattle.sender.proofs.Acks.{heard-ack}
-use Rattle.receiver.specs.Receiving.{onData, buffered, took}
-use Rattle.receiver.specs.declared.Taking.{Taking}
-use Rattle.receiver.specs.declared.Taking.the-variants.{Shown, NoneComplete, ShortBuffer}
+use Rattle.receiver.specs.Receiving.{onData, buffered}
+use Rattle.receiver.specs.declared.Receiver.{Receiver}
+use Rattle.receiver.specs.declared.Took.{Took}
+use Rattle.receiver.proofs.Outcomes.{TakeOutcome, none-complete, short-buffer, shows, take-outcome}
 use Rattle.receiver.specs.declared.Receipt.{Receipt}
 use Rattle.receiver.specs.declared.Receipt.the-variants.{Used, Complete, ThrownAway, OutOfPlace, Untaken, ShortFirst, ShortLater, Broken, NoData}
 use Rattle.receiver.specs.declared.Received.{Received}
@@ -34,8 +35,8 @@ use Rattle.arrival.specs.Arrived.{dataAnswer, ackAnswer, arrived}
 use Rattle.arrival.proofs.Arriving.{ArrivalOutcome, arrival-outcome, arrived-data, arrived-ack, data-goes-on, answers as leaves}
 use Rattle.arrival.proofs.Arriving.ArrivalOutcome.{test-came, accept-undue, accept-bad, accept-came}
 use Rattle.delivery.specs.End.{End, Told, Taken}
-use Rattle.delivery.specs.Line.{Line, lineAfter, unmoved, lineTake, lineArrive, lineBuffered, takeNumber, takeShown}
-use Rattle.delivery.specs.System.{Party, Flying, History, System, Fate, isData, isAck, asksAck, noted, asked, completing, losing, newly, shownAt}
+use Rattle.delivery.specs.Line.{Line, lineAfter, unmoved, lineTake, lineArrive, lineBuffered, takeNumber}
+use Rattle.delivery.specs.System.{Party, Flying, ShownMessage, shownOf, History, System, Fate, isData, isAck, asksAck, noted, asked, completing, losing, newly, shownAt}
 use Rattle.delivery.specs.System.Act.{arrive}
 use Rattle.delivery.specs.System.Fate.{goes, stays, lost}
 use Rattle.delivery.specs.Laws.{Tells, Shows, Carried}
@@ -63,18 +64,19 @@ data-noted h NoData = noted-quiet h false 4 refl refl
 -- ---- what a take shows
 
 -- of a channel: nothing if its end is closed
-abbrev pub lineShown : Line → List ℕ → List (List ℕ)
+abbrev pub lineShown : Line → List ℕ → List ShownMessage
 lineShown l b = if l .live then shownIn (l .channel .receiver) b else []
 
-shown-noted : (n : Taking) (size : ℕ) (b : List ℕ) → (if eqb (takeNumber n) 0 then front (takeShown n size) b ∷ [] else []) ≡ shownBy n (front size b)
-shown-noted Shown size b = refl
-shown-noted NoneComplete size b = refl
-shown-noted ShortBuffer size b = refl
+shown-noted : (r : Receiver) (b : List ℕ) {t : Took} → TakeOutcome r (length b) t
+    → (if eqb (takeNumber (t .note)) 0 then shownOf (t .message) b ∷ [] else []) ≡ shownBy (t .note) (shownOf (r .complete) b)
+shown-noted r b (none-complete w) = refl
+shown-noted r b (short-buffer w s) = refl
+shown-noted r b (shows w s) = refl
 
 pub shown-line : {State : Type 0} {R : State → Line → Type 0} (c : Channel) (live : Bool) (b : List ℕ) (r : Taken State) → Shows R r (lineTake (line c live) (length b))
-    → (if eqb (r .number) 0 then front (r .shown) b ∷ [] else []) ≡ lineShown (line c live) b
+    → (if eqb (r .number) 0 then shownOf (r .message) b ∷ [] else []) ≡ lineShown (line c live) b
 shown-line c false b r e = rw (e .number)
-shown-line c true b r e = rw (e .number, e .shown) (shown-noted (took (c .receiver) (length b) .note) (c .receiver .complete .length) b)
+shown-line c true b r e = rw (e .number, e .message) (shown-noted (c .receiver) b (take-outcome (c .receiver) (length b)))
 
 -- what a link is left with, if its first frame g arrives
 pub data Left (g : Flying) (behind : List Flying) : Fate → List Flying → Type 0 where
@@ -180,7 +182,7 @@ module _ (limit : ℕ) (carried : Telegram → Type 0) (N F : End) (R : N .State
 
   -- ---- what leaves the receiver and the buffer as they were
 
-  newly-live : (w : List (List ℕ)) (v v′ : Bool) → (v ≡ false → v′ ≡ false) → newly (if v then w else []) (if v′ then w else []) ≡ []
+  newly-live : (w : List ShownMessage) (v v′ : Bool) → (v ≡ false → v′ ≡ false) → newly (if v then w else []) (if v′ then w else []) ≡ []
   newly-live w true true o = newly-same w
   newly-live w true false o = newly-none w
   newly-live w false true o = absurd (true≢false (o refl))
@@ -192,7 +194,7 @@ module _ (limit : ℕ) (carried : Telegram → Type 0) (N F : End) (R : N .State
   same-counts c v v′ y same o t t′ q =
       let before = shown-line nc v b (N .take x (length b)) (takes x (line nc v) t (length b)) in
       let after = shown-line c v′ b (N .take y (length b)) (takes y (line c v′) t′ (length b)) in
-      rw (before, after, same) (ap (λ (z : List (List ℕ)). k .complete ++ z) (newly-live (shownIn (nc .receiver) b) v v′ o) ∙ append-nil (k .complete) ∙ q)
+      rw (before, after, same) (ap (λ (z : List ShownMessage). k .complete ++ z) (newly-live (shownIn (nc .receiver) b) v v′ o) ∙ append-nil (k .complete) ∙ q)
 
   -- a frame without AR, or at a closed end, asks for nothing
   asked-none : (o : Bool) → (o && asksAck (sorted (g .bytes) .kind)) ≡ false → asked k o (sorted (g .bytes) .kind) (g .try) ≡ k

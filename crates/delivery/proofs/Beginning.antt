@@ -1,7 +1,7 @@
 -- Two fresh ends: tied to their channels, with the invariant of the direction from the near to the far one.
 use Prim.Native.Nat.{ℕ, _+_, _%_}
 use mathlib.Core.Bool.{true, not, false≢true}
-use mathlib.Core.List.{List, []}
+use mathlib.Core.List.{List, [], map}
 use mathlib.Core.Logic.{inl}
 use mathlib.Core.Path.{refl, sym, ap, subst, subst₂, _∙_}
 use lib.ListN.{length, take}
@@ -9,7 +9,7 @@ use Rattle.sender.specs.declared.Sender.{Sender}
 use Rattle.receiver.specs.declared.Receiver.{Receiver}
 use Rattle.delivery.specs.End.{End}
 use Rattle.delivery.specs.Line.{Line}
-use Rattle.delivery.specs.System.{Party, Flying, History, System, turned}
+use Rattle.delivery.specs.System.{Party, Flying, ShownMessage, plain, History, System, turned}
 use Rattle.delivery.specs.Claim.{channelOf, Fresh}
 use Rattle.delivery.specs.Laws.{TwoEnds}
 use Rattle.delivery.proofs.Invariant.{current, Forward, Backward, Invariant}
@@ -75,7 +75,7 @@ fresh-keeps limit s f =
             between = record { begun = ap (λ (x : Receiver). x .at .begun .length) got; discarding = ap (λ (x : Receiver). x .at .discarding) got };
             complete = inl (record { none = ap (λ (x : Receiver). x .complete .length) got; all = ap length out ∙ sym done });
           });
-      inOrder = out ∙ sym (ap (λ (l : List (List ℕ)). take (length l) (s .forth .accepted)) out);
+      inOrder = out ∙ sym (ap (λ (l : List ShownMessage). map plain (take (length l) (s .forth .accepted))) out);
       eight = sym (ap (λ (h : History). not (h .eight)) none);
     }
 

@@ -2,17 +2,16 @@
 use Prim.Native.Nat.{ℕ, zero, suc, _+_, _≤_, _<_}
 use native.Mathlib.Omega.{arith}
 use mathlib.Core.Bool.{Bool, true, false, not, false≢true}
-use mathlib.Core.List.{List, [], _∷_, _++_, append-nil}
+use mathlib.Core.List.{List, [], _∷_, _++_, append-nil, map}
 use mathlib.Core.Logic.{_⊎_, inl, inr}
 use mathlib.Core.Path.{_≡_, refl, sym, ap, subst, _∙_}
 use lib.ListN.{length, getD, take, length-append}
-use lib.Seq.{take-suc}
 use borrow.Author.Tests.{ltb-true, lt-ltb}
 use Rattle.laws.proofs.Cases.{either}
 use Rattle.receiver.specs.Receiving.{waiting}
 use Rattle.delivery.specs.End.{End}
 use Rattle.delivery.specs.Line.{Line}
-use Rattle.delivery.specs.System.{System, Call, turned, shownAt, taking, step, run}
+use Rattle.delivery.specs.System.{ShownMessage, plain, System, Call, turned, shownAt, taking, step, run}
 use Rattle.delivery.specs.System.Side.{near, far}
 use Rattle.delivery.specs.System.Act.{take as takes}
 use Rattle.delivery.specs.System.Call.{at}
@@ -20,6 +19,7 @@ use Rattle.delivery.specs.Claim.{Within, Roomy, Fresh, WholeOrNone}
 use Rattle.delivery.specs.BothWays.{OneWay, BothWaysHolds}
 use Rattle.delivery.specs.Laws.{TwoEnds}
 use Rattle.delivery.proofs.Core.{Direction}
+use Rattle.delivery.proofs.ReceivingKeeps.{one-more}
 use Rattle.delivery.proofs.Delivers.{Ready, Delivers, delivers}
 use Rattle.delivery.proofs.Directions.{heldIn}
 use Rattle.delivery.proofs.Completes.{shownIn, shown-held}
@@ -36,7 +36,7 @@ module _ (two : TwoEnds) (r t : ℕ)
   -- while the far end is open, a take hands out what waits
   pub take-hands : two .far .open′ (s .far .state) ≡ true → step s (at far takes) .forth .handedOut ≡ s .forth .handedOut ++ heldIn (f .channel .receiver) (s .far .buffer)
   unfolding taking
-  take-hands o = ap (λ (l : List (List ℕ)). s .forth .handedOut ++ l) (shows (f .live) (g .seen .far′) (sym (two .farLaws .opens (g .seen .far′)) ∙ o))
+  take-hands o = ap (λ (l : List ShownMessage). s .forth .handedOut ++ l) (shows (f .live) (g .seen .far′) (sym (two .farLaws .opens (g .seen .far′)) ∙ o))
     where
       fits : shownIn (f .channel .receiver) (s .far .buffer) ≡ heldIn (f .channel .receiver) (s .far .buffer)
       fits = shown-held (f .channel .receiver) (s .far .buffer) (waits-fit two r t room n f s (g .kept) roomy)
@@ -50,19 +50,18 @@ module _ (two : TwoEnds) (r t : ℕ)
   pub whole-or-none : s .forth .eight ≡ true → length (s .forth .accepted) ≡ s .forth .done + 1 → (cs : List Call) → WholeOrNone s cs
   whole-or-none e one cs =
       let a = run-moves two r t cs n f s (g .seen) in
-      subst (λ (x : Direction). (length (x .history .handedOut) ≤ s .forth .done) ⊎ (x .history .handedOut ≡ s .forth .accepted))
+      subst (λ (x : Direction). (length (x .history .handedOut) ≤ s .forth .done) ⊎ (x .history .handedOut ≡ map plain (s .forth .accepted)))
       (sym (a .forth)) (promised .wholeOrNever (promised .closed ∙ ap not e) one (a .moves))
 
   -- one message waits
-  one-waits : waiting (f .channel .receiver) ≡ true → (s .forth .complete ≡ take (length (s .forth .handedOut) + 1) (s .forth .accepted)) × (length (s .forth .complete) ≡ length (s .forth .handedOut) + 1)
+  one-waits : waiting (f .channel .receiver) ≡ true → (s .forth .complete ≡ map plain (take (length (s .forth .handedOut) + 1) (s .forth .accepted))) × (length (s .forth .complete) ≡ length (s .forth .handedOut) + 1)
   one-waits w =
       let x = promised .waits (ltb-true 0 (f .channel .receiver .complete .length) w) in
       let c = rw w at (g .counts) in
       let out = s .forth .handedOut in
       let all = s .forth .accepted in
-      let last = ap (λ (m : List ℕ). out ++ (m ∷ [])) (x .0 .front) ∙ ap (λ (l : List (List ℕ)). l ++ (getD all (length out) [] ∷ [])) (promised .inOrder) in
-      let more : suc (length out) ≡ length out + 1 = omega arith in (
-        c ∙ last ∙ sym (take-suc all (length out) [] (x .1)) ∙ ap (λ (i : ℕ). take i all) more,
+      let last = ap (λ (m : ShownMessage). out ++ (m ∷ [])) (x .0 .front) ∙ ap (λ (l : List ShownMessage). l ++ (plain (getD all (length out) []) ∷ [])) (promised .inOrder) in (
+        c ∙ last ∙ one-more all (length out) (x .1),
         omega (arith, simp length-append at (ap length c)),
       )
 
@@ -86,7 +85,7 @@ module _ (two : TwoEnds) (r t : ℕ)
   one-way-holds =
       record {
         inOrder = promised .inOrder;
-        complete = either (waiting (f .channel .receiver)) (λ w. let o = one-waits w in o .0 ∙ ap (λ (i : ℕ). take i (s .forth .accepted)) (sym (o .1))) (λ w. rw (none-waits w) (promised .inOrder));
+        complete = either (waiting (f .channel .receiver)) (λ w. let o = one-waits w in o .0 ∙ ap (λ (i : ℕ). map plain (take i (s .forth .accepted))) (sym (o .1))) (λ w. rw (none-waits w) (promised .inOrder));
         next = either (waiting (f .channel .receiver)) (λ w. inr (record { one = one-waits w .1; shows = λ o. take-hands o ∙ sym (g .counts) })) (λ w. inl (none-waits w));
         done = done-complete (s .forth .done) refl;
         last = promised .last;

@@ -1,5 +1,5 @@
 -- A bare channel is a lawful end: demand 3 and 02, 14 for two channels.
-use Prim.Native.Nat.{ℕ, _<_}
+use Prim.Native.Nat.{ℕ, _≤_}
 use mathlib.Core.Bool.{Bool, true, false, false≢true}
 use mathlib.Core.List.{List}
 use mathlib.Core.Path.{_≡_, refl, subst}
@@ -31,7 +31,7 @@ module _ (limit : ℕ) where
   arrive-tells itself bytes room = record { number = refl; done = refl; tied = itself }
 
 take-shows : {r t : ℕ} {x l : Line} → Itself r t x l → (room : ℕ) → Shows (Itself r t) (lineTake x room) (lineTake l room)
-take-shows itself room = record { number = refl; shown = refl; tied = itself }
+take-shows itself room = record { number = refl; message = refl; tied = itself }
 
 time-tells : {r t : ℕ} {x l : Line} → Itself r t x l → (n : ℕ) → Tells (Itself r t) (lineTime x n) (lineTime l n)
 time-tells itself n = record { number = refl; done = refl; tied = itself }
@@ -55,7 +55,7 @@ channel-lawful limit =
     }
 
 -- two channels
-abbrev pub twoChannels : (limit : ℕ) → limit < 65536 → TwoEnds
+abbrev pub twoChannels : (limit : ℕ) → limit ≤ 4095 → TwoEnds
 twoChannels limit small =
     record {
       limit = limit;
@@ -69,8 +69,8 @@ twoChannels limit small =
       farLaws = channel-lawful limit;
     }
 
-pub channels-demand3 : (limit : ℕ) → limit < 65536 → Demand3Holds (channelEnd limit) (channelEnd limit)
+pub channels-demand3 : (limit : ℕ) → limit ≤ 4095 → Demand3Holds (channelEnd limit) (channelEnd limit)
 channels-demand3 limit small = demand3 (twoChannels limit small)
 
-pub channels-both-ways : (limit : ℕ) → limit < 65536 → BothWaysHolds (channelEnd limit) (channelEnd limit)
+pub channels-both-ways : (limit : ℕ) → limit ≤ 4095 → BothWaysHolds (channelEnd limit) (channelEnd limit)
 channels-both-ways limit small = both-ways (twoChannels limit small)

@@ -20,7 +20,7 @@ use Rattle.sender.specs.declared.Passed.{Passed}
 use Rattle.sender.specs.declared.Handing.{Handing}
 use Rattle.sender.specs.declared.Handing.the-variants.{Frame, Nothing as NoFrame, OtherLength}
 use Rattle.sender.specs.declared.Handed.{Handed}
-use Rattle.receiver.specs.Receiving.{onData, buffered, took, shown, ackHanded}
+use Rattle.receiver.specs.Receiving.{onData, buffered, took, ackHanded}
 use Rattle.receiver.specs.declared.Receiver.{Receiver}
 use Rattle.receiver.specs.declared.Received.{Received}
 use Rattle.receiver.specs.declared.Taking.{Taking}
@@ -30,7 +30,7 @@ use Rattle.channel.specs.declared.Answer.{Answer}
 use Rattle.channel.specs.declared.Answer.the-variants.{Good, UsedUp}
 use Rattle.channel.specs.Numbers.{said, closes}
 use Rattle.arrival.specs.Arrived.{ackAnswer}
-use Rattle.delivery.specs.System.{Try, History, Fate, withMessages, withTries, handing, noted, losing, lent}
+use Rattle.delivery.specs.System.{Try, ShownMessage, shownOf, History, Fate, withMessages, withTries, handing, noted, losing, lent}
 use Rattle.delivery.specs.System.Fate.{goes, stays, lost}
 
 -- a data frame on its way, as it is sorted, and its try
@@ -153,7 +153,7 @@ abbrev pub withLosses : History → List Try → History
 withLosses h l = withTries h (h .frames) (h .turns) (h .ackTry) l
 
 -- and with other messages handed out
-abbrev pub withHandedOut : History → List (List ℕ) → History
+abbrev pub withHandedOut : History → List ShownMessage → History
 withHandedOut h l = withMessages h (h .accepted) (h .complete) l (h .done) (h .eight)
 
 -- a message accepted
@@ -264,13 +264,13 @@ receiving limit stays (f ∷ l) d = if d .listens then received limit d f else d
 receiving limit lost (f ∷ l) d = withFrames d l (losing (d .history) true (f .try))
 
 -- what a take shows
-abbrev pub shownBy : Taking → List ℕ → List (List ℕ)
+abbrev pub shownBy : Taking → ShownMessage → List ShownMessage
 shownBy Shown m = m ∷ []
 shownBy NoneComplete m = []
 shownBy ShortBuffer m = []
 
 abbrev pub tookTo : Direction → Took → Direction
-tookTo d g = withReceiving d (g .receiver) (d .buffer) (handing (d .history) (shownBy (g .note) (shown (d .receiver) (d .buffer))))
+tookTo d g = withReceiving d (g .receiver) (d .buffer) (handing (d .history) (shownBy (g .note) (shownOf (d .receiver .complete) (d .buffer))))
 
 -- the due Ack handed over
 abbrev pub withAck : Direction → Direction

@@ -3,7 +3,7 @@ use Prim.Native.Nat.{ℕ, _≤_, _<_}
 use mathlib.Core.Bool.{Bool, true, false, or-false}
 use mathlib.Core.List.{List, [], _∷_, _++_, append-assoc, append-nil}
 use mathlib.Core.Path.{_≡_, sym, ap, _∙_}
-use lib.ListN.{length, take, drop}
+use lib.ListN.{length, drop}
 use lib.Dec.{eqb}
 use Rattle.laws.specs.If.{if_then_else_}
 use Rattle.telegram.specs.Kinds.{sorted}
@@ -17,7 +17,7 @@ use Rattle.receiver.specs.declared.Receiver.{Receiver}
 use Rattle.channel.specs.Opened.{testDue}
 use Rattle.delivery.specs.End.{End}
 use Rattle.delivery.specs.Line.{Line}
-use Rattle.delivery.specs.System.{Flying, History, System, Act, Fate, withMessages, noted, isData}
+use Rattle.delivery.specs.System.{Flying, ShownMessage, shownOf, History, System, Act, Fate, withMessages, noted, isData}
 use Rattle.delivery.specs.System.Act.{send, take as takes, time, due, arrive}
 use Rattle.delivery.proofs.Core.{DataFrame, AckFrame, Direction, Move, move}
 use Rattle.delivery.proofs.Core.Move.{offer, hear, pass, hand, receive, taken, acknowledge, closeSending, closeReceiving, rest}
@@ -101,8 +101,8 @@ pub data Moves (n : Line) (link : List Flying) : Act → Move → Move → Bool 
 -- ---- what a call leaves
 
 -- the message that waits in a buffer
-abbrev pub heldIn : Receiver → List ℕ → List (List ℕ)
-heldIn r b = if waiting r then take (r .complete .length) b ∷ [] else []
+abbrev pub heldIn : Receiver → List ℕ → List ShownMessage
+heldIn r b = if waiting r then shownOf (r .complete) b ∷ [] else []
 
 -- a message that waits has room in the buffer
 abbrev pub Room : Receiver → List ℕ → Type 0

@@ -2,7 +2,7 @@
 use Prim.Native.Nat.{ℕ, _+_, _<_}
 use native.Mathlib.Omega.{arith}
 use mathlib.Core.Bool.{Bool, true, false, false≢true}
-use mathlib.Core.List.{List, [], _∷_, _++_}
+use mathlib.Core.List.{List, [], _∷_, _++_, map}
 use mathlib.Core.Logic.{_⊎_, inl, inr}
 use mathlib.Core.Path.{_≡_, refl, sym, ap, subst, _∙_}
 use lib.ListN.{length, getD, take}
@@ -18,7 +18,7 @@ use Rattle.channel.specs.declared.Tests.{Tests}
 use Rattle.channel.specs.Opened.{testDue}
 use Rattle.delivery.specs.End.{End}
 use Rattle.delivery.specs.Line.{Line}
-use Rattle.delivery.specs.System.{Flying, History, System, Act, Call, Fate, turned, sending, taking, timing, asking, arriving, missing, meeting, act, step, run, lent}
+use Rattle.delivery.specs.System.{Flying, ShownMessage, plain, History, System, Act, Call, Fate, turned, sending, taking, timing, asking, arriving, missing, meeting, act, step, run, lent}
 use Rattle.delivery.specs.System.Side.{near, far}
 use Rattle.delivery.specs.System.Fate.{goes, stays, lost}
 use Rattle.delivery.specs.System.Act.{send, take as takes, time, due, arrive}
@@ -288,7 +288,7 @@ module _ (two : TwoEnds) (s : SystemOf two) (fresh : Fresh s) (cs : List Call) (
       none =
           let accepted : run s cs .back .accepted ≡ [] = far-accepts cs s q ∙ ap (λ (h : History). h .accepted) (fresh .back) in
           both-ways two s fresh cs .back (subst (Within (length (s .near .buffer))) (sym accepted) tt) .inOrder
-          ∙ ap (take (length (run s cs .back .handedOut))) accepted ∙ take-nil (length (run s cs .back .handedOut))
+          ∙ ap (map plain) (ap (take (length (run s cs .back .handedOut))) accepted ∙ take-nil (length (run s cs .back .handedOut)))
 
       -- 8 was answered for a message in sending
       counted : run s cs .forth .eight ≡ true → length (run s cs .forth .accepted) ≡ run s cs .forth .done + 1
@@ -303,13 +303,13 @@ module _ (two : TwoEnds) (s : SystemOf two) (fresh : Fresh s) (cs : List Call) (
 
       shown : {i : ℕ}
           → (i < length (run s cs .forth .handedOut)) ⊎ ((length (run s cs .forth .handedOut) ≡ i) × Ready (forthOf (ran .near′) (ran .far′) (run s cs)) (getD (run s cs .forth .accepted) i []))
-          → (i < length (run s cs .forth .handedOut)) ⊎ ((length (run s cs .forth .handedOut) ≡ i) × (step (run s cs) (at far takes) .forth .handedOut ≡ run s cs .forth .handedOut ++ (getD (run s cs .forth .accepted) i [] ∷ [])))
+          → (i < length (run s cs .forth .handedOut)) ⊎ ((length (run s cs .forth .handedOut) ≡ i) × (step (run s cs) (at far takes) .forth .handedOut ≡ run s cs .forth .handedOut ++ (plain (getD (run s cs .forth .accepted) i []) ∷ [])))
       shown (inl h) = inl h
       shown {i} (inr p) =
-          let held : heldIn (ran .far′ .channel .receiver) (run s cs .far .buffer) ≡ getD (run s cs .forth .accepted) i [] ∷ [] =
-          rw (lt-ltb 0 (ran .far′ .channel .receiver .complete .length) (p .1 .some)) (ap (λ (m : List ℕ). m ∷ []) (p .1 .front)) in
+          let held : heldIn (ran .far′ .channel .receiver) (run s cs .far .buffer) ≡ plain (getD (run s cs .forth .accepted) i []) ∷ [] =
+          rw (lt-ltb 0 (ran .far′ .channel .receiver .complete .length) (p .1 .some)) (ap (λ (m : ShownMessage). m ∷ []) (p .1 .front)) in
           inr (
             p .0,
             take-hands two r t (length (s .far .buffer)) (ran .near′) (ran .far′) (run s cs) good roomy far-open
-                ∙ ap (λ (l : List (List ℕ)). run s cs .forth .handedOut ++ l) held,
+                ∙ ap (λ (l : List ShownMessage). run s cs .forth .handedOut ++ l) held,
           )

@@ -8,15 +8,16 @@ use Prim.Native.Nat.{ℕ, _+_, _-_, _*_, max, _%_, _≤_, _<_}
 use mathlib.Core.Bool.{true, false, not}
 use mathlib.Core.Path.{_≡_}
 use mathlib.Core.Logic.{_⊎_}
-use mathlib.Core.List.{List, [], _∷_}
+use mathlib.Core.List.{List, [], _∷_, map}
 use lib.ListN.{length, take, drop, getD}
 use Rattle.telegram.specs.Cutting.{streamOf, framesOf, lastAt, asksAt}
+use Rattle.telegram.specs.declared.cutting.Message.{Message}
 use Rattle.sender.specs.declared.Terms.{Terms}
 use Rattle.sender.specs.declared.Sender.{Sender}
 use Rattle.receiver.specs.declared.Standing.{Standing}
 use Rattle.receiver.specs.declared.AckDue.{AckDue}
 use Rattle.receiver.specs.declared.Receiver.{Receiver}
-use Rattle.delivery.specs.System.{History}
+use Rattle.delivery.specs.System.{ShownMessage, shownOf, plain, History}
 use Rattle.delivery.proofs.Core.{DataFrame, AckFrame, Direction}
 
 -- the terms that 01 allows: block size 1 to 15, T1 not 0
@@ -109,7 +110,7 @@ pub record Between (at : Standing) : Type 0 where
 
 -- inside the message m, after some of its frames: the buffer's front is that of the message
 pub record Inside (m : List ℕ) (used : ℕ) (at : Standing) (buffer : List ℕ) : Type 0 where
-  pub begun : at .begun .length ≡ length m
+  pub begun : at .begun ≡ record { length = length m; flags = 0 }
   pub discarding : at .discarding ≡ false
   pub fill : at .fill ≡ 7 * used - 2
   pub least : 1 ≤ used
@@ -117,44 +118,44 @@ pub record Inside (m : List ℕ) (used : ℕ) (at : Standing) (buffer : List ℕ
   pub front : take (7 * used - 2) buffer ≡ take (7 * used - 2) m
 
 -- so many messages were complete, and all are handed out; none waits
-pub record Out (count : ℕ) (handedOut : List (List ℕ)) (waits : ℕ) : Type 0 where
-  pub none : waits ≡ 0
+pub record Out (count : ℕ) (handedOut : List ShownMessage) (waits : Message) : Type 0 where
+  pub none : waits .length ≡ 0
   pub all : length handedOut ≡ count
 
--- so many messages were complete, and the last of them, of so many bytes, waits in the buffer
-pub record Waits (count : ℕ) (accepted handedOut : List (List ℕ)) (waits : ℕ) (buffer : List ℕ) : Type 0 where
-  pub some : 1 ≤ waits
-  pub fits : waits ≤ length buffer
+-- so many messages were complete, and the last of them waits in the buffer
+pub record Waits (count : ℕ) (accepted : List (List ℕ)) (handedOut : List ShownMessage) (waits : Message) (buffer : List ℕ) : Type 0 where
+  pub some : 1 ≤ waits .length
+  pub fits : waits .length ≤ length buffer
   pub all : length handedOut + 1 ≡ count
-  pub front : take waits buffer ≡ getD accepted (length handedOut) []
+  pub front : shownOf waits buffer ≡ plain (getD accepted (length handedOut) [])
 
-abbrev pub Complete : (count : ℕ) (accepted handedOut : List (List ℕ)) (waits : ℕ) (buffer : List ℕ) → Type 0
+abbrev pub Complete : (count : ℕ) (accepted : List (List ℕ)) (handedOut : List ShownMessage) (waits : Message) (buffer : List ℕ) → Type 0
 Complete count accepted handedOut waits buffer = Out count handedOut waits ⊎ Waits count accepted handedOut waits buffer
 
 -- nothing of the next message used: those complete are those done
-pub record Begin (used done : ℕ) (accepted handedOut : List (List ℕ)) (at : Standing) (waits : ℕ) (buffer : List ℕ) : Type 0 where
+pub record Begin (used done : ℕ) (accepted : List (List ℕ)) (handedOut : List ShownMessage) (at : Standing) (waits : Message) (buffer : List ℕ) : Type 0 where
   pub none : used ≡ 0
   pub between : Between at
   pub complete : Complete done accepted handedOut waits buffer
 
 -- a part of the message m in sending used
-pub record Part (used done : ℕ) (m : List ℕ) (handedOut : List (List ℕ)) (at : Standing) (waits : ℕ) (buffer : List ℕ) : Type 0 where
+pub record Part (used done : ℕ) (m : List ℕ) (handedOut : List ShownMessage) (at : Standing) (waits : Message) (buffer : List ℕ) : Type 0 where
   pub inside : Inside m used at buffer
   pub complete : Out done handedOut waits
 
 -- all of the message m in sending used: one more is complete than done
-pub record Whole (used done : ℕ) (m : List ℕ) (accepted handedOut : List (List ℕ)) (at : Standing) (waits : ℕ) (buffer : List ℕ) : Type 0 where
+pub record Whole (used done : ℕ) (m : List ℕ) (accepted : List (List ℕ)) (handedOut : List ShownMessage) (at : Standing) (waits : Message) (buffer : List ℕ) : Type 0 where
   pub counted : length accepted ≡ done + 1
   pub all : used ≡ framesOf (length m)
   pub between : Between at
   pub complete : Complete (done + 1) accepted handedOut waits buffer
 
-abbrev pub Holds : (used done : ℕ) (m : List ℕ) (accepted handedOut : List (List ℕ)) (at : Standing) (waits : ℕ) (buffer : List ℕ) → Type 0
+abbrev pub Holds : (used done : ℕ) (m : List ℕ) (accepted : List (List ℕ)) (handedOut : List ShownMessage) (at : Standing) (waits : Message) (buffer : List ℕ) → Type 0
 Holds used done m accepted handedOut at waits buffer =
     Begin used done accepted handedOut at waits buffer ⊎ (Part used done m handedOut at waits buffer ⊎ Whole used done m accepted handedOut at waits buffer)
 
 abbrev pub Content : (used : ℕ) (h : History) (r : Receiver) (buffer : List ℕ) → Type 0
-Content used h r buffer = Holds used (h .done) (current h) (h .accepted) (h .handedOut) (r .at) (r .complete .length) buffer
+Content used h r buffer = Holds used (h .done) (current h) (h .accepted) (h .handedOut) (r .at) (r .complete) buffer
 
 -- ---- all of it
 
@@ -167,7 +168,7 @@ pub record Invariant (limit room start used block : ℕ) (places : List ℕ) (d 
   pub forward : Forward start (start + d .sender .high) (current (d .history)) (d .terms .block) (start + used) places (d .frames)
   pub backward : Backward (start + d .sender .acked) (start + used) (d .receiver .ack) (d .acks)
   pub content : Content used (d .history) (d .receiver) (d .buffer)
-  pub inOrder : d .history .handedOut ≡ take (length (d .history .handedOut)) (d .history .accepted)
+  pub inOrder : d .history .handedOut ≡ map plain (take (length (d .history .handedOut)) (d .history .accepted))
   -- the sending end is open exactly as long as it did not answer 8
   pub eight : d .live ≡ not (d .history .eight)
 

@@ -1,5 +1,5 @@
 -- Every move keeps the invariant, as long as the receiving end's buffer holds each message accepted.
-use Prim.Native.Nat.{ℕ, zero, suc, _+_, max, _≤_, _<_}
+use Prim.Native.Nat.{ℕ, zero, suc, _+_, max, _≤_}
 use native.Mathlib.Omega.{arith}
 use mathlib.Core.Bool.{Bool, true, false, true≢false, false≢true, or-false}
 use mathlib.Core.List.{List, [], _∷_, _++_}
@@ -96,7 +96,7 @@ module _ {limit room start used block : ℕ} {d : Direction} where
       (forward-bounds start top top (current (d .history)) (d .terms .block) (max (start + used) (i + 1)) (start + used) (omega arith) (omega arith) is l (p .1))
       (v .backward)
 
-  receive-keeps : limit < 65536 → length (current (d .history)) ≤ room → (places : List ℕ) (v : Invariant limit room start used block places d)
+  receive-keeps : limit ≤ 4095 → length (current (d .history)) ≤ room → (places : List ℕ) (v : Invariant limit room start used block places d)
       → (fate : Fate) (l : List DataFrame) → d .frames ≡ l → Kept limit room (receiving limit fate l d)
   receive-keeps small roomy places v fate [] e = (start, used, block, places, v)
   receive-keeps small roomy [] v fate (f ∷ l) e = absurd (subst (Forward start _ (current (d .history)) (d .terms .block) (start + used) []) e (v .forward))
@@ -121,7 +121,7 @@ module _ {limit room start used block : ℕ} {d : Direction} where
   receive-keeps small roomy (i ∷ is) v lost (f ∷ l) e = (start, used, block, is, frame-gone i is v f l e (f .try ∷ d .history .losses))
 
 -- one move
-pub move-keeps : {limit room : ℕ} {d : Direction} → limit < 65536 → Within room (d .history .accepted) → Kept limit room d → (m : Move)
+pub move-keeps : {limit room : ℕ} {d : Direction} → limit ≤ 4095 → Within room (d .history .accepted) → Kept limit room d → (m : Move)
     → Kept limit room (move limit d m)
 move-keeps {limit} {room} {d} small within k (offer m) = by (Kept limit room) (d .live) (λ _. offer-keeps (k .4) m) λ _. k
 move-keeps {limit} {room} {d} small within k (hear fate) = hear-keeps (k .4) fate (d .acks) refl

@@ -12,7 +12,7 @@ use Rattle.telegram.specs.Kinds.{sorted}
 use Rattle.receiver.specs.Receiving.{waiting}
 use Rattle.channel.specs.Opened.{testDue}
 use Rattle.delivery.specs.End.{End}
-use Rattle.delivery.specs.System.{System, Party, Flying, Try, Act, Call, turned, isData, step, run}
+use Rattle.delivery.specs.System.{System, Party, Flying, plain, Try, Act, Call, turned, isData, step, run}
 use Rattle.delivery.specs.System.Side.{near, far}
 use Rattle.delivery.specs.System.Fate.{goes, stays, lost}
 use Rattle.delivery.specs.System.Act.{send, take, time, due, arrive}
@@ -194,8 +194,8 @@ example = (
 
 -- then both messages are complete, handed out and done. The first took 27 frames, of 18 in its cutting: three, four and two were sent again
 pub example-done :
-    (run start calls .forth .complete ≡ longMessage ∷ shortMessage ∷ [])
-    × (run start calls .forth .handedOut ≡ longMessage ∷ shortMessage ∷ [])
+    (run start calls .forth .complete ≡ plain longMessage ∷ plain shortMessage ∷ [])
+    × (run start calls .forth .handedOut ≡ plain longMessage ∷ plain shortMessage ∷ [])
     × (run start calls .forth .done ≡ 2)
     × (framesFor 0 (run start calls .forth .frames) ≡ 27)
     × (framesFor 1 (run start calls .forth .frames) ≡ 1)

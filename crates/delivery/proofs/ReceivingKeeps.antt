@@ -3,7 +3,7 @@ use Prim.Native.Nat.{ℕ, _+_, _-_, _*_, max, _%_, _≤_, _<_}
 use native.Mathlib.Numerals.{add-one}
 use native.Mathlib.Omega.{arith}
 use mathlib.Core.Bool.{Bool, true, false, true≢false}
-use mathlib.Core.List.{List, [], _∷_, _++_, append-nil}
+use mathlib.Core.List.{List, [], _∷_, _++_, append-nil, map, map-append}
 use mathlib.Core.Logic.{_⊎_, inl, inr}
 use mathlib.Core.Path.{_≡_, refl, sym, ap, ap₂, subst, _∙_}
 use lib.Dec.{ltb}
@@ -12,11 +12,11 @@ use lib.Seq.{take-suc}
 use borrow.Author.Tests.{ltb-true, ltb-false}
 use Rattle.laws.proofs.Cases.{by, either}
 use Rattle.delivery.proofs.Mod16.{same-shown}
-use Rattle.telegram.specs.Cutting.{framesOf}
+use Rattle.telegram.specs.Cutting.{none, framesOf}
 use Rattle.telegram.specs.declared.kinds.Telegram.the-variants.{Data}
 use Rattle.sender.specs.declared.Sender.{Sender}
-use Rattle.receiver.specs.Receiving.{none, ackAfter, kept, onData, isUsed, buffered, took, shown}
-use Rattle.receiver.specs.declared.Message.{Message}
+use Rattle.receiver.specs.Receiving.{ackAfter, kept, onData, isUsed, buffered, took}
+use Rattle.telegram.specs.declared.cutting.Message.{Message}
 use Rattle.receiver.specs.declared.Standing.{Standing}
 use Rattle.receiver.specs.declared.AckDue.{AckDue}
 use Rattle.receiver.specs.declared.Receiver.{Receiver}
@@ -27,34 +27,43 @@ use Rattle.receiver.specs.declared.Took.{Took}
 use Rattle.receiver.proofs.Outcomes.{Outcome, out-of-place, untaken, thrown-away, in-order, outcome, TakeOutcome, none-complete, short-buffer, shows, take-outcome}
 use Rattle.receiver.proofs.Laws.{kept-is, outcome-ack, received-data, buffered-unused, buffered-length}
 use Rattle.reading.specs.Reading.{Reading, after}
-use Rattle.reading.proofs.Frame.{Behind, Reads, within, whole, behind-front, reads-used, reads-expected, arrives-data, reads-frame}
+use Rattle.reading.proofs.Frame.{unflagged, Behind, Reads, within, whole, behind-front, reads-used, reads-expected, arrives-data, reads-frame}
 use Rattle.reading.proofs.Whole.{read-shown}
-use Rattle.delivery.specs.System.{Try, handing}
+use Rattle.delivery.specs.System.{Try, ShownMessage, shownOf, plain, handing}
 use Rattle.delivery.proofs.Core.{DataFrame, Direction, withReceiving, withHandedOut, askedBy, receivedTo, received, tookTo, withAck, move}
 use Rattle.delivery.proofs.Core.Move.{taken}
 use Rattle.delivery.proofs.Invariant.{current, Half, Sending, Carries, Placed, Forward, Backward, Out, Waits, Complete, Content, Holds, Invariant, Kept}
 use Rattle.delivery.proofs.Links.{forward-bounds, backward-bounds, backward-due, backward-hand}
 use Rattle.delivery.proofs.SendingKeeps.{in-sending}
 
+-- ---- messages as they are to arrive
+
+-- one more of those accepted
+pub one-more : (ms : List (List ℕ)) (n : ℕ) → n < length ms → map plain (take n ms) ++ (plain (getD ms n []) ∷ []) ≡ map plain (take (n + 1) ms)
+one-more ms n below = sym (map-append plain (take n ms) (getD ms n [] ∷ [])) ∙ ap (map plain) (sym (take-suc ms n [] below) ∙ ap (λ (i : ℕ). take i ms) (sym (add-one n)))
+
+shown-plain : {bytes m : List ℕ} {flags : ℕ} → bytes ≡ m → flags ≡ 0 → record { bytes = bytes; flags = flags } ≡ plain m
+shown-plain e f = rw (e, f)
+
 -- ---- what the receiver holds
 
 -- with none waiting, all that were complete are handed out
-all-out : {count waits : ℕ} {accepted handedOut : List (List ℕ)} {buffer : List ℕ} → Complete count accepted handedOut waits buffer → waits ≡ 0
+all-out : {count : ℕ} {waits : Message} {accepted : List (List ℕ)} {handedOut : List ShownMessage} {buffer : List ℕ} → Complete count accepted handedOut waits buffer → waits .length ≡ 0
     → Out count handedOut waits
 all-out (inl o) h = o
 all-out (inr w) h = absurd (omega (arith, w .some))
 
-one-waits : {count waits : ℕ} {accepted handedOut : List (List ℕ)} {buffer : List ℕ} → Complete count accepted handedOut waits buffer → 1 ≤ waits
+one-waits : {count : ℕ} {waits : Message} {accepted : List (List ℕ)} {handedOut : List ShownMessage} {buffer : List ℕ} → Complete count accepted handedOut waits buffer → 1 ≤ waits .length
     → Waits count accepted handedOut waits buffer
 one-waits (inl o) h = absurd (omega (arith, o .none))
 one-waits (inr w) h = w
 
 -- the one that waits is taken
-taken-out : {count waits : ℕ} {accepted handedOut : List (List ℕ)} {buffer : List ℕ} (x : List ℕ) → 1 ≤ waits
-    → Complete count accepted handedOut waits buffer → Complete count accepted (handedOut ++ (x ∷ [])) 0 buffer
+taken-out : {count : ℕ} {waits : Message} {accepted : List (List ℕ)} {handedOut : List ShownMessage} {buffer : List ℕ} (x : ShownMessage) → 1 ≤ waits .length
+    → Complete count accepted handedOut waits buffer → Complete count accepted (handedOut ++ (x ∷ [])) none buffer
 taken-out {handedOut = handedOut} x some c = let w = one-waits c some in inl (record { none = refl; all = length-append handedOut (x ∷ []) ∙ w .all })
 
-module _ {used done waits : ℕ} {m buffer : List ℕ} {accepted handedOut : List (List ℕ)} {at : Standing} where
+module _ {used done : ℕ} {waits : Message} {m buffer : List ℕ} {accepted : List (List ℕ)} {handedOut : List ShownMessage} {at : Standing} where
   -- nothing is being thrown away
   not-discarding : Holds used done m accepted handedOut at waits buffer
       → at .discarding ≡ false
@@ -63,19 +72,19 @@ module _ {used done waits : ℕ} {m buffer : List ℕ} {accepted handedOut : Lis
   not-discarding (inr (inr c)) = c .between .discarding
 
   -- the message that waits is the next one accepted
-  next-waits : {limit size block : ℕ} {s : Sender} → 1 ≤ waits
+  next-waits : {limit size block : ℕ} {s : Sender} → 1 ≤ waits .length
       → Holds used done m accepted handedOut at waits buffer
       → Half limit accepted done size used block m s
-      → (take waits buffer ≡ getD accepted (length handedOut) []) × (length handedOut < length accepted)
+      → (shownOf waits buffer ≡ plain (getD accepted (length handedOut) [])) × (length handedOut < length accepted)
   next-waits some (inl c) (inl i) = let w = one-waits (c .complete) some in (w .front, omega (arith, w .all, i .counted))
   next-waits some (inl c) (inr b) = let w = one-waits (c .complete) some in (w .front, omega (arith, w .all, b .counted))
   next-waits some (inr (inl c)) s = absurd (omega (arith, c .complete .none))
   next-waits some (inr (inr c)) s = let w = one-waits (c .complete) some in (w .front, omega (arith, w .all, c .counted))
 
   -- what the receiver holds when the message that waits is taken
-  content-taken : (x : List ℕ) → 1 ≤ waits
+  content-taken : (x : ShownMessage) → 1 ≤ waits .length
       → Holds used done m accepted handedOut at waits buffer
-      → Holds used done m accepted (handedOut ++ (x ∷ [])) at 0 buffer
+      → Holds used done m accepted (handedOut ++ (x ∷ [])) at none buffer
   content-taken x some (inl c) = inl (record { none = c .none; between = c .between; complete = taken-out x some (c .complete) })
   content-taken x some (inr (inl c)) = absurd (omega (arith, c .complete .none))
   content-taken x some (inr (inr c)) = inr (inr (record { counted = c .counted; all = c .all; between = c .between; complete = taken-out x some (c .complete) }))
@@ -83,18 +92,18 @@ module _ {used done waits : ℕ} {m buffer : List ℕ} {accepted handedOut : Lis
   -- a message done is handed out or waits
   done-of : {i : ℕ} → i < done
       → Holds used done m accepted handedOut at waits buffer
-      → (i < length handedOut) ⊎ ((length handedOut ≡ i) × (1 ≤ waits) × (waits ≤ length buffer) × (take waits buffer ≡ getD accepted i []))
+      → (i < length handedOut) ⊎ ((length handedOut ≡ i) × (1 ≤ waits .length) × (waits .length ≤ length buffer) × (shownOf waits buffer ≡ plain (getD accepted i [])))
   done-of {i} h (inl c) = go (c .complete)
     where
       go : Complete done accepted handedOut waits buffer
-          → (i < length handedOut) ⊎ ((length handedOut ≡ i) × (1 ≤ waits) × (waits ≤ length buffer) × (take waits buffer ≡ getD accepted i []))
+          → (i < length handedOut) ⊎ ((length handedOut ≡ i) × (1 ≤ waits .length) × (waits .length ≤ length buffer) × (shownOf waits buffer ≡ plain (getD accepted i [])))
       go (inl o) = inl (omega (arith, o .all))
       go (inr w) =
           either (ltb i (length handedOut))
           (λ b. inl (ltb-true _ _ b))
           λ b. let past = ltb-false i (length handedOut) b in
           let e : length handedOut ≡ i = omega (arith, w .all) in
-          inr (e, w .some, w .fits, w .front ∙ ap (λ (n : ℕ). getD accepted n []) e)
+          inr (e, w .some, w .fits, w .front ∙ ap (λ (n : ℕ). plain (getD accepted n [])) e)
   done-of h (inr (inl c)) = inl (omega (arith, c .complete .all))
   done-of {i} h (inr (inr c)) = inl (go (c .complete))
     where
@@ -108,21 +117,17 @@ module _ {used done waits : ℕ} {m buffer : List ℕ} {accepted handedOut : Lis
 abbrev readingOf : Direction → Reading
 readingOf d = record { receiver = d .receiver; buffer = d .buffer; note = NoData }
 
-message : ℕ → Message
-message n = record { length = n }
-
-module _ {start used done : ℕ} {m : List ℕ} {accepted handedOut : List (List ℕ)} where
+module _ {start used done : ℕ} {m : List ℕ} {accepted : List (List ℕ)} {handedOut : List ShownMessage} where
   -- with frames of the message left to use and none waiting, it stands behind those used, and all complete before are handed out
-  holds-behind : (d : Direction) → Holds used done m accepted handedOut (d .receiver .at) (d .receiver .complete .length) (d .buffer)
+  holds-behind : (d : Direction) → Holds used done m accepted handedOut (d .receiver .at) (d .receiver .complete) (d .buffer)
       → used < framesOf (length m) → d .receiver .complete .length ≡ 0 → d .receiver .at .expected ≡ (start + used) % 16
-      → Behind m start (d .buffer) used (readingOf d) × (length handedOut ≡ done)
-  unfolding message
+      → Behind m 0 start (d .buffer) used (readingOf d) × (length handedOut ≡ done)
   holds-behind d (inl c) more none′ e = (
     record {
       expected = e;
       discarding = c .between .discarding;
-      complete = ap message none′;
-      starts = λ _. ap message (c .between .begun);
+      complete = none′;
+      starts = λ _. c .between .begun;
       begun = λ z. absurd (omega (arith, c .none));
       fill = λ z. absurd (omega (arith, c .none));
       buffer = rw (c .none);
@@ -133,9 +138,9 @@ module _ {start used done : ℕ} {m : List ℕ} {accepted handedOut : List (List
     record {
       expected = e;
       discarding = c .inside .discarding;
-      complete = ap message none′;
+      complete = none′;
       starts = λ z. absurd (omega (arith, c .inside .least));
-      begun = λ _. ap message (c .inside .begun);
+      begun = λ _. c .inside .begun;
       fill = λ _. c .inside .fill;
       buffer = sym (take-append-drop (7 * used - 2) (d .buffer)) ∙ ap (λ (x : List ℕ). x ++ drop (7 * used - 2) (d .buffer)) (c .inside .front);
     },
@@ -144,20 +149,20 @@ module _ {start used done : ℕ} {m : List ℕ} {accepted handedOut : List (List
   holds-behind d (inr (inr c)) more none′ e = absurd (omega (arith, c .all))
 
   -- what it holds when it has read the next one
-  reads-holds : {b : List ℕ} {h : Reading} → Reads m start b used h → length handedOut ≡ done
+  reads-holds : {b : List ℕ} {h : Reading} → Reads m 0 start b used h → length handedOut ≡ done
       → length accepted ≡ done + 1 → m ≡ getD accepted done [] → 1 ≤ length m
-      → Holds (used + 1) done m accepted handedOut (h .receiver .at) (h .receiver .complete .length) (h .buffer)
+      → Holds (used + 1) done m accepted handedOut (h .receiver .at) (h .receiver .complete) (h .buffer)
   reads-holds (within u n s) out counted same some =
       inr (inl (record {
         inside = record {
-          begun = ap (λ (x : Message). x .length) (s .begun (omega arith));
+          begun = s .begun (omega arith);
           discarding = s .discarding;
           fill = s .fill (omega arith);
           least = omega arith;
           most = u;
           front = behind-front (used + 1) u s;
         };
-        complete = record { none = ap (λ (x : Message). x .length) (s .complete); all = out };
+        complete = record { none = s .complete; all = out };
       }))
   reads-holds {b} {h} (whole e t) out counted same some =
       let w = ap (λ (x : Message). x .length) (t .complete) in
@@ -172,7 +177,7 @@ module _ {start used done : ℕ} {m : List ℕ} {accepted handedOut : List (List
               some = omega arith;
               fits = omega arith;
               all = omega arith;
-              front = read-shown m start b h t ∙ same ∙ ap (λ (n : ℕ). getD accepted n []) (sym out);
+              front = shown-plain (read-shown m 0 start b h t ∙ same ∙ ap (λ (n : ℕ). getD accepted n []) (sym out)) (ap (λ (x : Message). x .flags) (t .complete));
             });
       }))
 
@@ -283,23 +288,24 @@ module _ {limit room start used block : ℕ} {places : List ℕ} {d : Direction}
         eight = v .eight;
       }
 
-  module _ (small : limit < 65536) (roomy : length (current (d .history)) ≤ room) (f : DataFrame) where
+  module _ (small : limit ≤ 4095) (roomy : length (current (d .history)) ≤ room) (f : DataFrame) where
     -- what becomes of the frame
     abbrev answer : Received
     answer = onData limit (d .receiver) (f .asks) (f .last) (f .number) (f .bytes) (length (d .buffer))
 
     -- the expected frame, with none waiting, is read as the next one of the message in sending
     expected-reads : used < d .sender .high → f .number ≡ (start + used) % 16 → Carries (current (d .history)) (d .terms .block) used f
-        → Behind (current (d .history)) start (d .buffer) used (readingOf d)
-        → Reads (current (d .history)) start (d .buffer) used (after (readingOf d) (f .bytes) answer)
+        → Behind (current (d .history)) 0 start (d .buffer) used (readingOf d)
+        → Reads (current (d .history)) 0 start (d .buffer) used (after (readingOf d) (f .bytes) answer)
     expected-reads more number carries behind =
         let b = in-sending v (high-busy (v .sending) more) in
         let r = v .room′ in
-        subst (Reads (current (d .history)) start (d .buffer) used)
+        let bytes = carries .bytes ∙ ap (λ (s : List ℕ). take 7 (drop (7 * used) s)) (unflagged (current (d .history))) in
+        subst (Reads (current (d .history)) 0 start (d .buffer) used)
         (arrives-data limit (readingOf d) (f .asks) _ _ _
-        ∙ λ i. after (readingOf d) (sym (carries .bytes) i)
-        (onData limit (d .receiver) (f .asks) (sym (carries .last) i) (sym number i) (sym (carries .bytes) i) (length (d .buffer))))
-        (reads-frame limit (current (d .history)) start (d .buffer) (b .some) (b .within) (omega arith) (omega arith) used (readingOf d) (f .asks) (omega arith) behind)
+        ∙ λ i. after (readingOf d) (sym bytes i)
+        (onData limit (d .receiver) (f .asks) (sym (carries .last) i) (sym number i) (sym bytes i) (length (d .buffer))))
+        (reads-frame limit (current (d .history)) 0 start (d .buffer) (b .some) (b .within) small (omega arith) (omega arith) used (readingOf d) (f .asks) (omega arith) behind)
 
     expected-keeps : used < d .sender .high → f .number ≡ (start + used) % 16 → Carries (current (d .history)) (d .terms .block) used f
         → d .receiver .complete .length ≡ 0
@@ -355,7 +361,7 @@ module _ {limit room start used block : ℕ} {places : List ℕ} {d : Direction}
     used,
     block,
     places,
-    subst (λ (l : List (List ℕ)). Invariant limit room start used block places (withReceiving d (d .receiver) (d .buffer) (withHandedOut (d .history) l)))
+    subst (λ (l : List ShownMessage). Invariant limit room start used block places (withReceiving d (d .receiver) (d .buffer) (withHandedOut (d .history) l)))
         (sym (append-nil (d .history .handedOut))) v,
   )
 
@@ -363,7 +369,7 @@ module _ {limit room start used block : ℕ} {places : List ℕ} {d : Direction}
   pub taken-keeps : 1 ≤ d .receiver .complete .length
       → Invariant limit room start used block places
       (withReceiving d (record { at = d .receiver .at; back = d .receiver .back; complete = none; ack = d .receiver .ack }) (d .buffer)
-      (handing (d .history) (shown (d .receiver) (d .buffer) ∷ [])))
+      (handing (d .history) (shownOf (d .receiver .complete) (d .buffer) ∷ [])))
   taken-keeps some =
       record {
         fair = v .fair;
@@ -373,21 +379,21 @@ module _ {limit room start used block : ℕ} {places : List ℕ} {d : Direction}
         expected = v .expected;
         forward = v .forward;
         backward = v .backward;
-        content = content-taken (shown (d .receiver) (d .buffer)) some (v .content);
+        content = content-taken (shownOf (d .receiver .complete) (d .buffer)) some (v .content);
         inOrder = in-order (next-waits some (v .content) (v .sending));
         eight = v .eight;
       }
     where
-      more : List (List ℕ)
-      more = d .history .handedOut ++ (shown (d .receiver) (d .buffer) ∷ [])
+      more : List ShownMessage
+      more = d .history .handedOut ++ (shownOf (d .receiver .complete) (d .buffer) ∷ [])
 
-      in-order : (shown (d .receiver) (d .buffer) ≡ getD (d .history .accepted) (length (d .history .handedOut)) [])
+      in-order : (shownOf (d .receiver .complete) (d .buffer) ≡ plain (getD (d .history .accepted) (length (d .history .handedOut)) []))
           × (length (d .history .handedOut) < length (d .history .accepted))
-          → more ≡ take (length more) (d .history .accepted)
+          → more ≡ map plain (take (length more) (d .history .accepted))
       in-order (front, below) =
-          ap₂ (λ (a : List (List ℕ)) (b : List ℕ). a ++ (b ∷ [])) (v .inOrder) front
-          ∙ sym (take-suc (d .history .accepted) (length (d .history .handedOut)) [] below)
-          ∙ ap (λ (n : ℕ). take n (d .history .accepted)) (sym (length-append (d .history .handedOut) _ ∙ add-one _))
+          ap₂ (λ (a : List ShownMessage) (b : ShownMessage). a ++ (b ∷ [])) (v .inOrder) front
+          ∙ one-more (d .history .accepted) (length (d .history .handedOut)) below
+          ∙ ap (λ (n : ℕ). map plain (take n (d .history .accepted))) (sym (length-append (d .history .handedOut) _))
 
   pub take-keeps : Kept limit room (tookTo d (took (d .receiver) (length (d .buffer))))
   take-keeps = go (take-outcome (d .receiver) (length (d .buffer)))
@@ -420,18 +426,18 @@ module _ {limit room start used block : ℕ} {places : List ℕ} {d : Direction}
   pub done-complete : (i : ℕ) → i < d .history .done
       → (i < length (d .history .handedOut))
       ⊎ ((length (d .history .handedOut) ≡ i) × (1 ≤ d .receiver .complete .length) × (d .receiver .complete .length ≤ length (d .buffer))
-      × (take (d .receiver .complete .length) (d .buffer) ≡ getD (d .history .accepted) i []))
+      × (shownOf (d .receiver .complete) (d .buffer) ≡ plain (getD (d .history .accepted) i [])))
   done-complete i h = done-of h (v .content)
 
 -- a take shows the message that waits
 module _ (limit : ℕ) (d : Direction) (open′ : d .listens ≡ true)
     (some : 1 ≤ d .receiver .complete .length) (fits : d .receiver .complete .length ≤ length (d .buffer)) where
-  pub take-shows : move limit d taken .history .handedOut ≡ d .history .handedOut ++ (take (d .receiver .complete .length) (d .buffer) ∷ [])
+  pub take-shows : move limit d taken .history .handedOut ≡ d .history .handedOut ++ (shownOf (d .receiver .complete) (d .buffer) ∷ [])
   take-shows =
       by (λ (x : Direction). x .history .handedOut ≡ more) (d .listens) (λ _. go (take-outcome (d .receiver) (length (d .buffer)))) λ e. absurd (true≢false (sym open′ ∙ e))
     where
-      more : List (List ℕ)
-      more = d .history .handedOut ++ (take (d .receiver .complete .length) (d .buffer) ∷ [])
+      more : List ShownMessage
+      more = d .history .handedOut ++ (shownOf (d .receiver .complete) (d .buffer) ∷ [])
 
       go : {x : Took} → TakeOutcome (d .receiver) (length (d .buffer)) x → tookTo d x .history .handedOut ≡ more
       go (none-complete w) = absurd (omega (arith, ltb-false 0 (d .receiver .complete .length) w))

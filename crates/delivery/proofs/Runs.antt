@@ -6,7 +6,7 @@ use mathlib.Core.Path.{_≡_, refl, sym, ap, subst, _∙_}
 use Rattle.channel.specs.Opened.{testDue}
 use Rattle.delivery.specs.End.{End}
 use Rattle.delivery.specs.Line.{Line}
-use Rattle.delivery.specs.System.{Party, Flying, System, Act, Call, turned, act, step, run}
+use Rattle.delivery.specs.System.{Party, Flying, ShownMessage, System, Act, Call, turned, act, step, run}
 use Rattle.delivery.specs.System.Side.{near, far}
 use Rattle.delivery.specs.System.Call.{at}
 use Rattle.delivery.specs.Claim.{Within}
@@ -72,7 +72,7 @@ module _ (two : TwoEnds) (r t : ℕ) where
         caused = here (w .moves);
         counts = λ _ _ c.
             subst (λ (p : Party (two .far)). Counts (u .forth) (f .channel .receiver) (p .buffer)) (sym (w .far′))
-            (w .complete ∙ c ∙ sym (ap (λ (l : List (List ℕ)). l ++ heldIn (f .channel .receiver) (s .far .buffer)) (w .handedOut)));
+            (w .complete ∙ c ∙ sym (ap (λ (l : List ShownMessage). l ++ heldIn (f .channel .receiver) (s .far .buffer)) (w .handedOut)));
         untested-near = w .untested;
         untested-far = λ _ z. z;
       }

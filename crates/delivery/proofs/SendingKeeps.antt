@@ -3,12 +3,12 @@ use Prim.Native.Nat.{ℕ, suc, _+_, _-_, _*_, max, _%_, _≤_, _<_}
 use native.Mathlib.Nat.{mul-mod-left}
 use native.Mathlib.Omega.{arith}
 use mathlib.Core.Bool.{Bool, true, false, _||_, or-true}
-use mathlib.Core.List.{List, [], _∷_, _++_}
+use mathlib.Core.List.{List, [], _∷_, _++_, map}
 use mathlib.Core.Logic.{inl, inr}
 use mathlib.Core.Path.{_≡_, refl, sym, ap, subst₂, _∙_}
 use lib.Dec.{eqb}
 use borrow.Author.Tests.{eq-eqb, not-true}
-use lib.ListN.{length, take, drop, getD, length-append, length-take, List·getD-append}
+use lib.ListN.{length, take, drop, getD, length-append, length-map, length-take, List·getD-append}
 use lib.Seq.{getD-at, take-append-le}
 use Rattle.laws.specs.If.{if_then_else_}
 use Rattle.laws.proofs.Cases.{by-lt}
@@ -24,9 +24,10 @@ use Rattle.sender.proofs.Offers.{Takes, OfferCase, unfinished, no-bytes, too-lo
 use Rattle.sender.proofs.Acks.{AckCase, no-message, in-hold, repeated, beyond, ack-used-up, held-back, all-acked, part-acked, ackCase}
 use Rattle.sender.proofs.Time.{TimeCase, no-wait, runs-on, wait-used-up, sends-again, timeCase}
 use Rattle.sender.proofs.Frames.{Due, FrameCase, none-due, other-length, frame-out, frameCase}
+use Rattle.telegram.specs.declared.cutting.Message.{Message}
 use Rattle.receiver.specs.declared.Standing.{Standing}
 use Rattle.channel.specs.declared.Answer.the-variants.{Good, Done, UsedUp}
-use Rattle.delivery.specs.System.{Try, lent}
+use Rattle.delivery.specs.System.{Try, ShownMessage, plain, lent}
 use Rattle.delivery.proofs.Core.{DataFrame, Direction, withSending, withFrame, offeredTo, heardTo, passedTo, handedTo, frameNow, accepting, answerNoted}
 use Rattle.delivery.proofs.Invariant.{current, Idle, Busy, Half, Sending, Carries, Placed, Forward, Shows, Backward, Begin, Complete, Content, Holds, Invariant, Kept}
 use Rattle.delivery.proofs.Links.{forward-bounds, forward-old, forward-more, backward-bounds}
@@ -108,7 +109,7 @@ begun-busy limit accepted′ done size used m m′ s e some within least i =
     omega arith
 
 -- what the receiver holds, with one message more accepted and nothing of it used
-content-more : {used done waits : ℕ} {accepted′ handedOut : List (List ℕ)} {m′ buffer : List ℕ} {at : Standing} {s : Sender} (m : List ℕ)
+content-more : {used done : ℕ} {waits : Message} {accepted′ : List (List ℕ)} {handedOut : List ShownMessage} {m′ buffer : List ℕ} {at : Standing} {s : Sender} (m : List ℕ)
     → Idle accepted′ done used s
     → Holds used done m′ accepted′ handedOut at waits buffer
     → Begin used done (accepted′ ++ (m ∷ [])) handedOut at waits buffer
@@ -123,7 +124,7 @@ content-more {used} {done} {waits} {accepted′} {handedOut} {buffer = buffer} m
           some = w .some;
           fits = w .fits;
           all = w .all;
-          front = w .front ∙ sym (List·getD-append accepted′ (m ∷ []) [] (length handedOut) (omega (arith, w .all, i .counted)));
+          front = w .front ∙ ap plain (sym (List·getD-append accepted′ (m ∷ []) [] (length handedOut) (omega (arith, w .all, i .counted))));
         })
 content-more m i (inr (inl c)) = absurd (omega (arith, c .inside .least, i .none))
 content-more m i (inr (inr c)) = absurd (omega (arith, c .counted, i .counted))
@@ -232,7 +233,7 @@ module _ {limit room start used block : ℕ} {places : List ℕ} {d : Direction}
       }
     where
       begun : Content used (d .history) (d .receiver) (d .buffer)
-          → Begin 0 (d .history .done + 1) (d .history .accepted) (d .history .handedOut) (d .receiver .at) (d .receiver .complete .length) (d .buffer)
+          → Begin 0 (d .history .done + 1) (d .history .accepted) (d .history .handedOut) (d .receiver .at) (d .receiver .complete) (d .buffer)
       begun (inl c) = let b = in-sending some in absurd (omega (arith, c .none, ap framesOf (b .length′)))
       begun (inr (inl c)) = absurd (omega (arith, c .inside .most, ap framesOf (in-sending some .length′)))
       begun (inr (inr c)) = record { none = refl; between = c .between; complete = c .complete }
@@ -374,7 +375,7 @@ module _ {limit room start used block : ℕ} {places : List ℕ} {d : Direction}
 
   -- no more messages were handed out than accepted
   handed-most : length (d .history .handedOut) ≤ length (d .history .accepted)
-  handed-most = omega (arith, simp length-take at (ap length (v .inOrder)))
+  handed-most = omega (arith, simp (length-map, length-take) at (ap length (v .inOrder)))
 
   accepted-keeps : (m : List ℕ) → Takes limit (d .sender) (length m)
       → Invariant limit room start used 0 places (withSending d (accepted (d .sender) (length m)) (d .live) (accepting (d .history) m))
@@ -394,7 +395,7 @@ module _ {limit room start used block : ℕ} {places : List ℕ} {d : Direction}
         backward =
             backward-bounds (start + s .acked) (start + 0) (start + used) (start + used) (d .receiver .ack) (omega arith) (omega arith) (d .acks) (v .backward);
         content = inl (content-more m i (v .content));
-        inOrder = v .inOrder ∙ sym (take-append-le _ (d .history .accepted) (m ∷ []) handed-most);
+        inOrder = v .inOrder ∙ ap (map plain) (sym (take-append-le _ (d .history .accepted) (m ∷ []) handed-most));
         eight = v .eight;
       }
 

@@ -5,7 +5,7 @@ use mathlib.Core.Bool.{Bool, true, false, true≢false, or-false}
 use mathlib.Core.List.{List, [], _∷_, _++_, append-nil}
 use mathlib.Core.Path.{_≡_, refl, ap, _∙_, sym}
 use lib.Dec.{eqb}
-use lib.ListN.{length, take as front, drop}
+use lib.ListN.{length, drop}
 use Rattle.laws.specs.If.{if_then_else_}
 use Rattle.laws.proofs.Branches.{on}
 use Rattle.telegram.specs.Outgoing.{bytesOf}
@@ -40,8 +40,8 @@ use Rattle.channel.proofs.Passing.SendOutcome.{message-accepted, in-sending, ba
 use Rattle.channel.proofs.Handing.{testOut, DueOutcome, due-outcome}
 use Rattle.channel.proofs.Handing.DueOutcome.{accept-goes, test-goes, ack-goes, frame-goes, none-goes, other-length}
 use Rattle.delivery.specs.End.{End, Told, Taken, Given}
-use Rattle.delivery.specs.Line.{Line, lineAfter, answers, lineSend, lineTime, lineTake, lineDue, takeNumber, takeShown}
-use Rattle.delivery.specs.System.{Party, Flying, History, System, Act, offering, handing, noted, lent, tryOf, counted}
+use Rattle.delivery.specs.Line.{Line, lineAfter, answers, lineSend, lineTime, lineTake, lineDue, takeNumber}
+use Rattle.delivery.specs.System.{Party, Flying, shownOf, History, System, Act, offering, handing, noted, lent, tryOf, counted}
 use Rattle.delivery.specs.System.Act.{send, take as takes, time, due}
 use Rattle.delivery.specs.Laws.{Tells, Shows, Hands}
 use Rattle.delivery.proofs.Core.{DataFrame, AckFrame, Direction, Move, withFrames, withAcks, frameNow, passAnswer, offeredTo, handedTo, tookTo, move}
@@ -130,14 +130,14 @@ module _ (limit : ℕ) (carried : Telegram → Type 0) (N F : End) (R : N .State
 
   pub take-told : (live : Bool) (r : Taken (N .State)) → Shows R r (lineTake (line nc live) (length b))
       → Acted limit carried R receive transmit (line nc live) f takes sys
-      (with-near (r .state) h (handing k (if eqb (r .number) 0 then front (r .shown) b ∷ [] else [])))
+      (with-near (r .state) h (handing k (if eqb (r .number) 0 then shownOf (r .message) b ∷ [] else [])))
   take-told false r e = rw (e .number, append-nil (k .handedOut)) (idles (e .tied))
-  take-told true r e = rw (e .number, e .shown) (go (take-outcome (nc .receiver) (length b)) refl (e .tied))
+  take-told true r e = rw (e .number, e .message) (go (take-outcome (nc .receiver) (length b)) refl (e .tied))
     where
       go : {o : Took} → TakeOutcome (nc .receiver) (length b) o → took (nc .receiver) (length b) ≡ o
           → R (r .state) (record { channel = withReceiver nc (o .receiver); live = true })
           → Acted limit carried R receive transmit (line nc true) f takes sys
-          (with-near (r .state) h (handing k (if eqb (takeNumber (o .note)) 0 then front (takeShown (o .note) (nc .receiver .complete .length)) b ∷ [] else [])))
+          (with-near (r .state) h (handing k (if eqb (takeNumber (o .note)) 0 then shownOf (o .message) b ∷ [] else [])))
       go (none-complete w) e t = acted-of rest taken t refl (sym (ap (tookTo (coming (line nc true) k)) e)) takes-one (λ c. rw (append-nil (k .handedOut)) c) refl refl (λ _ z. z)
       go (short-buffer w s) e t = acted-of rest taken t refl (sym (ap (tookTo (coming (line nc true) k)) e)) takes-one (λ c. rw (append-nil (k .handedOut)) c) refl refl (λ _ z. z)
       go (shows w s) e t = acted-of rest taken t refl (sym (ap (tookTo (coming (line nc true) k)) e)) takes-one (λ c. (rw w at c) ∙ sym (append-nil _)) refl refl (λ _ z. z)

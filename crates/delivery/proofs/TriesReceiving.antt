@@ -14,7 +14,7 @@ use Rattle.laws.proofs.Cases.{by, either}
 use Rattle.delivery.proofs.Mod16.{same-shown, on-shown}
 use Rattle.sender.specs.declared.Terms.{Terms}
 use Rattle.receiver.specs.Receiving.{waiting, following, ackAfter, onData, took}
-use Rattle.receiver.specs.declared.Message.{Message}
+use Rattle.telegram.specs.declared.cutting.Message.{Message}
 use Rattle.receiver.specs.declared.Standing.{Standing}
 use Rattle.receiver.specs.declared.Receiver.{Receiver}
 use Rattle.receiver.specs.declared.Received.{Received}
@@ -22,7 +22,7 @@ use Rattle.receiver.specs.declared.Took.{Took}
 use Rattle.receiver.proofs.Outcomes.{breaks, short-first, short-later, goes-on, ends, Outcome, out-of-place, untaken, thrown-away, in-order, outcome, TakeOutcome, none-complete, short-buffer, shows, take-outcome}
 use Rattle.receiver.proofs.Laws.{Leaves, settled-leaves, numbered-leaves, kept-is}
 use Rattle.receiver.proofs.Gaps.{gap-kept}
-use Rattle.delivery.specs.System.{Try, Fate, handing, losing}
+use Rattle.delivery.specs.System.{Try, ShownMessage, Fate, handing, losing}
 use Rattle.delivery.specs.System.Fate.{goes, stays, lost}
 use Rattle.delivery.proofs.Core.{DataFrame, AckFrame, Direction, withFrames, withReceiving, withAck, askedBy, receivedTo, received, receiving, tookTo}
 use Rattle.delivery.proofs.Count.{Spared, not-spared}
@@ -414,7 +414,7 @@ module _ {terms : Terms} {d : Direction} (v : Tried terms d) where
   pub take-tried : Tried terms (tookTo d (took (d .receiver) (length (d .buffer))))
   take-tried = go (take-outcome (d .receiver) (length (d .buffer)))
     where
-      same : (c : Message) (h : List (List ℕ))
+      same : (c : Message) (h : List ShownMessage)
           → Tried terms (withReceiving d (record { at = d .receiver .at; back = d .receiver .back; complete = c; ack = d .receiver .ack }) (d .buffer) (handing (d .history) h))
       same c h = record { steady = v .steady; room = v .room; bounded = v .bounded; stage = stage-as (λ _ q. q) (λ _ b. b) (λ _ _ o. o) (λ _ _ a. a) (v .stage) }
 

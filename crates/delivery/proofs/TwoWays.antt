@@ -11,7 +11,7 @@ use Rattle.telegram.specs.declared.kinds.Telegram.{Telegram}
 use Rattle.telegram.specs.declared.kinds.Telegram.the-variants.{Test, Accept}
 use Rattle.channel.specs.declared.Parameters.{Parameters}
 use Rattle.delivery.specs.Line.{channelEnd}
-use Rattle.delivery.specs.System.{System, Party, Flying, Call, turned, run}
+use Rattle.delivery.specs.System.{System, Party, Flying, plain, Call, turned, run}
 use Rattle.delivery.specs.System.Side.{near, far}
 use Rattle.delivery.specs.System.Fate.{goes, lost}
 use Rattle.delivery.specs.System.Act.{send, take, time, due, arrive}
@@ -142,8 +142,8 @@ pub record BothWaysRun : Type 0 where
   pub held : channelOf (run start toLastWait .far) .receiver .at .fill ≡ 26
   -- from the near end to the far one: the request is done, after four frames, where its cutting has two, and the next message is given up
   pub forthAccepted : run start calls .forth .accepted ≡ request ∷ unfinished ∷ []
-  pub forthComplete : run start calls .forth .complete ≡ request ∷ []
-  pub forthHandedOut : run start calls .forth .handedOut ≡ request ∷ []
+  pub forthComplete : run start calls .forth .complete ≡ plain request ∷ []
+  pub forthHandedOut : run start calls .forth .handedOut ≡ plain request ∷ []
   pub forthDone : run start calls .forth .done ≡ 1
   pub forthEight : run start calls .forth .eight ≡ true
   pub oneNotDone : length (run start calls .forth .accepted) ≡ run start calls .forth .done + 1
@@ -152,8 +152,8 @@ pub record BothWaysRun : Type 0 where
   pub nearClosed : isOpen (run start calls .near) ≡ false
   -- from the far end to the near one: the reply is done, after two frames, where its cutting has one
   pub backAccepted : run start calls .back .accepted ≡ reply ∷ []
-  pub backComplete : run start calls .back .complete ≡ reply ∷ []
-  pub backHandedOut : run start calls .back .handedOut ≡ reply ∷ []
+  pub backComplete : run start calls .back .complete ≡ plain reply ∷ []
+  pub backHandedOut : run start calls .back .handedOut ≡ plain reply ∷ []
   pub backDone : run start calls .back .done ≡ 1
   pub backEight : run start calls .back .eight ≡ false
   pub backLosses : run start calls .back .losses ≡ record { message = 0; block = 0; turn = 0 } ∷ []

@@ -3,10 +3,10 @@ use Prim.Native.Nat.{_+_, _≤_}
 use mathlib.Core.Bool.{true, not}
 use mathlib.Core.Path.{_≡_}
 use mathlib.Core.Logic.{_⊎_}
-use mathlib.Core.List.{List}
+use mathlib.Core.List.{List, map}
 use lib.ListN.{length, take}
 use Rattle.delivery.specs.End.{End}
-use Rattle.delivery.specs.System.{System, Call, turned, step, run}
+use Rattle.delivery.specs.System.{plain, System, Call, turned, step, run}
 use Rattle.delivery.specs.System.Side.{far}
 use Rattle.delivery.specs.System.Act.{take as takes}
 use Rattle.delivery.specs.System.Call.{at}
@@ -19,10 +19,10 @@ pub record Untaken {N F : End} (s : System N F) : Type 0 where
 
 -- what holds of the direction from the near end to the far one
 pub record OneWay {N F : End} (s : System N F) : Type 0 where
-  -- "what is handed out is the first so many accepted, once and whole"
-  pub inOrder : s .forth .handedOut ≡ take (length (s .forth .handedOut)) (s .forth .accepted)
+  -- "what is handed out is the first so many accepted, once and whole"; "the bytes and flags 0 arrive" (02, 1)
+  pub inOrder : s .forth .handedOut ≡ map plain (take (length (s .forth .handedOut)) (s .forth .accepted))
   -- those complete are the first so many accepted too: those handed out, and perhaps one more
-  pub complete : s .forth .complete ≡ take (length (s .forth .complete)) (s .forth .accepted)
+  pub complete : s .forth .complete ≡ map plain (take (length (s .forth .complete)) (s .forth .accepted))
   pub next : (s .forth .complete ≡ s .forth .handedOut) ⊎ Untaken s
   -- "done (it has been complete there)"
   pub done : s .forth .done ≤ length (s .forth .complete)

@@ -3,7 +3,7 @@ use Prim.Native.Nat.{ℕ, _+_, _*_, _≤_, _<_}
 use mathlib.Core.Bool.{Bool, true, false}
 use mathlib.Core.Path.{_≡_}
 use mathlib.Core.Logic.{_⊎_}
-use mathlib.Core.List.{List, [], _∷_, _++_}
+use mathlib.Core.List.{List, [], _∷_, _++_, map}
 use lib.ListN.{length, getD, take}
 use lib.Dec.{eqb}
 use Rattle.laws.specs.If.{if_then_else_}
@@ -14,7 +14,7 @@ use Rattle.receiver.specs.Receiving.{waiting, fresh as freshReceiver}
 use Rattle.channel.specs.declared.Channel.{Channel}
 use Rattle.channel.specs.Opened.{noneOut, testDue, due as dueOf}
 use Rattle.delivery.specs.End.{End}
-use Rattle.delivery.specs.System.{Party, Flying, Try, History, System, Act, Call, turned, lent, isData, step, run}
+use Rattle.delivery.specs.System.{Party, Flying, Try, plain, History, System, Act, Call, turned, lent, isData, step, run}
 use Rattle.delivery.specs.System.Side.{near, far}
 use Rattle.delivery.specs.System.Fate.{goes, stays, lost}
 use Rattle.delivery.specs.System.Act.{send, take as takes, time, due, arrive}
@@ -94,16 +94,16 @@ Roomy s t = Within (length (s .far .buffer)) (t .forth .accepted)
 
 -- "handed out whole or no part of it ever is": the last message accepted, which is not done, after a list of calls
 abbrev pub WholeOrNone : {N F : End} → System N F → List Call → Type 0
-WholeOrNone s cs = (length (run s cs .forth .handedOut) ≤ s .forth .done) ⊎ (run s cs .forth .handedOut ≡ s .forth .accepted)
+WholeOrNone s cs = (length (run s cs .forth .handedOut) ≤ s .forth .done) ⊎ (run s cs .forth .handedOut ≡ map plain (s .forth .accepted))
 
 -- the first half: what holds after every list of calls
 pub record Delivered {N F : End} (s : System N F) : Type 0 where
-  -- "the messages handed out are the first so many accepted, in order, once, byte for byte"
-  pub inOrder : s .forth .handedOut ≡ take (length (s .forth .handedOut)) (s .forth .accepted)
+  -- "the messages handed out are the first so many accepted, in order, once, byte for byte"; "the bytes and flags 0 arrive" (02, 1)
+  pub inOrder : s .forth .handedOut ≡ map plain (take (length (s .forth .handedOut)) (s .forth .accepted))
   -- "each reported done is handed out, or a take would hand it out now"
   pub done :
       (i : ℕ) → i < s .forth .done →
-      (i < length (s .forth .handedOut)) ⊎ ((length (s .forth .handedOut) ≡ i) × (step s (at far takes) .forth .handedOut ≡ s .forth .handedOut ++ (getD (s .forth .accepted) i [] ∷ [])))
+      (i < length (s .forth .handedOut)) ⊎ ((length (s .forth .handedOut) ≡ i) × (step s (at far takes) .forth .handedOut ≡ s .forth .handedOut ++ (plain (getD (s .forth .accepted) i []) ∷ [])))
   -- "given up": 8 was answered before the last message accepted was done
   pub givenUp :
       s .forth .eight ≡ true →

@@ -3,6 +3,7 @@
 use Prim.Native.Nat.{ℕ}
 use mathlib.Core.Bool.{Bool}
 use mathlib.Core.List.{List}
+use Rattle.telegram.specs.declared.cutting.Message.{Message}
 use Rattle.channel.specs.declared.Channel.{Channel}
 
 -- ---- what a call tells
@@ -13,10 +14,10 @@ pub record Told (State : Type 0) : Type 0 where
   pub done : Bool
   pub state : State
 
--- of a take: the number, and the length of the message shown, at the front of the lent buffer
+-- of a take: the number, and the message shown: its length, at the front of the lent buffer, and its flags
 pub record Taken (State : Type 0) : Type 0 where
   pub number : ℕ
-  pub shown : ℕ
+  pub message : Message
   pub state : State
 
 -- of a call for what is due: whether a frame is handed over, its CAN ID and its bytes

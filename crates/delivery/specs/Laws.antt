@@ -1,6 +1,6 @@
 -- What an end owes, so that demand 3 and request 14 hold of it: call by call it tells what a bare channel tells.
 -- Tied relates a state of the end, with its receive and its transmit ID, to such a channel; it is a relation and no view, since an end that answered 8 may forget its channel.
-use Prim.Native.Nat.{ℕ, _<_}
+use Prim.Native.Nat.{ℕ, _≤_}
 use mathlib.Core.Bool.{true}
 use mathlib.Core.Path.{_≡_}
 use mathlib.Core.List.{List}
@@ -19,7 +19,7 @@ pub record Tells {State : Type 0} (R : State → Line → Type 0) (r : Told Stat
 -- the same of a take
 pub record Shows {State : Type 0} (R : State → Line → Type 0) (r : Taken State) (l : Taken Line) : Type 0 where
   pub number : r .number ≡ l .number
-  pub shown : r .shown ≡ l .shown
+  pub message : r .message ≡ l .message
   pub tied : R (r .state) (l .state)
 
 -- the same of what is due: a frame has the end's transmit ID, and is of a kind that the links carry
@@ -61,10 +61,10 @@ pub record Lawful (limit : ℕ) (carried : Telegram → Type 0) (E : End) (Tied 
   pub buffers : {r t : ℕ} {x : E .State} {l : Line} → Tied r t x l → (bytes : List ℕ) → carried (sorted bytes .kind) → (buffer : List ℕ)
       → E .buffered x r bytes buffer ≡ lineBuffered limit l bytes buffer
 
--- two lawful ends whose links carry the same kinds, and a limit on lengths that two length bytes can tell
+-- two lawful ends whose links carry the same kinds, and a limit on lengths that twelve bits can tell
 pub record TwoEnds : Type 1 where
   pub limit : ℕ
-  pub small : limit < 65536
+  pub small : limit ≤ 4095
   pub carried : Telegram → Type 0
   pub near : End
   pub far : End

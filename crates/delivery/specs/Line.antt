@@ -6,6 +6,7 @@ use lib.ListN.{drop}
 use Rattle.laws.specs.If.{if_then_else_}
 use Rattle.telegram.specs.Outgoing.{bytesOf}
 use Rattle.telegram.specs.Kinds.{sorted}
+use Rattle.telegram.specs.Cutting.{none}
 use Rattle.receiver.specs.Receiving.{took}
 use Rattle.receiver.specs.declared.Taking.{Taking}
 use Rattle.receiver.specs.declared.Taking.the-variants.{Shown, NoneComplete, ShortBuffer}
@@ -48,24 +49,14 @@ takeNumber Shown = 0
 takeNumber NoneComplete = 5
 takeNumber ShortBuffer = 7
 
--- the length of what a take shows, of a complete message of n bytes
-abbrev pub takeShown : Taking → ℕ → ℕ
-takeShown Shown n = n
-takeShown NoneComplete n = 0
-takeShown ShortBuffer n = 0
-
 -- take: 4 if closed
 abbrev pub lineTake : Line → (room : ℕ) → Taken Line
 lineTake l room =
     if l .live
     then
     (let t = took (l .channel .receiver) room in
-    record {
-      number = takeNumber (t .note);
-      shown = takeShown (t .note) (l .channel .receiver .complete .length);
-      state = record { channel = withReceiver (l .channel) (t .receiver); live = true };
-    })
-    else record { number = said NotDue .number; shown = 0; state = l }
+    record { number = takeNumber (t .note); message = t .message; state = record { channel = withReceiver (l .channel) (t .receiver); live = true } })
+    else record { number = said NotDue .number; message = none; state = l }
 
 -- what is due: nothing if closed
 abbrev pub lineDue : Line → List ℕ → Given Line

@@ -6,6 +6,7 @@ use mathlib.Core.List.{List, [], _∷_, _++_}
 use lib.ListN.{length, getD, take as front}
 use lib.Dec.{eqb}
 use Rattle.laws.specs.If.{if_then_else_}
+use Rattle.telegram.specs.declared.cutting.Message.{Message}
 use Rattle.telegram.specs.Kinds.{sorted}
 use Rattle.telegram.specs.declared.kinds.Telegram.{Telegram}
 use Rattle.telegram.specs.declared.kinds.Telegram.the-variants.{Data, Ack, Test, Break, Disconnect, Setup, Accept, Malformed}
@@ -29,14 +30,27 @@ pub record Flying : Type 0 where
   pub bytes : List ℕ
   pub try : Try
 
+-- a message as a take shows it: its bytes, and the flags reported with it (02, 1)
+pub record ShownMessage : Type 0 where
+  pub bytes : List ℕ
+  pub flags : ℕ
+
+-- what is shown of a buffer: as many bytes of its front as the message has, and its flags
+abbrev pub shownOf : Message → List ℕ → ShownMessage
+shownOf m buffer = record { bytes = front (m .length) buffer; flags = m .flags }
+
+-- a message accepted, as it is to arrive: "the bytes and flags 0 arrive" (02, 1)
+abbrev pub plain : List ℕ → ShownMessage
+plain m = record { bytes = m; flags = 0 }
+
 -- what happened so far in one direction, from a sending end to a receiving one
 pub record History : Type 0 where
   -- "Accepted": the messages whose send was answered 0, the first one first
   pub accepted : List (List ℕ)
   -- the messages that were complete at the receiving end: an arrival made a take show them
-  pub complete : List (List ℕ)
+  pub complete : List ShownMessage
   -- "Handed out": the messages shown by a take, the first one first
-  pub handedOut : List (List ℕ)
+  pub handedOut : List ShownMessage
   -- how many were reported done by the sending end
   pub done : ℕ
   -- the sending end answered 8
@@ -88,7 +102,7 @@ pub data Call : Type 0 where
 -- ---- what the history notes
 
 -- a history with other messages
-abbrev pub withMessages : History → (accepted complete handedOut : List (List ℕ)) → (done : ℕ) → (eight : Bool) → History
+abbrev pub withMessages : History → (accepted : List (List ℕ)) → (complete handedOut : List ShownMessage) → (done : ℕ) → (eight : Bool) → History
 withMessages h a c o d e =
     record {
       accepted = a;
@@ -126,11 +140,11 @@ abbrev pub offering : History → List ℕ → (number : ℕ) → History
 offering h m n = withMessages h (if eqb n 0 then h .accepted ++ (m ∷ []) else h .accepted) (h .complete) (h .handedOut) (h .done) (h .eight)
 
 -- messages handed out
-abbrev pub handing : History → List (List ℕ) → History
+abbrev pub handing : History → List ShownMessage → History
 handing h ms = withMessages h (h .accepted) (h .complete) (h .handedOut ++ ms) (h .done) (h .eight)
 
 -- messages that are complete now
-abbrev pub completing : History → List (List ℕ) → History
+abbrev pub completing : History → List ShownMessage → History
 completing h ms = withMessages h (h .accepted) (h .complete ++ ms) (h .handedOut) (h .done) (h .eight)
 
 -- the sending end's answer: done, or 8
@@ -192,12 +206,12 @@ losing h c t = withTries h (h .frames) (h .turns) (h .ackTry) (if c then t ∷ h
 
 -- ---- the calls, at the near end
 
--- what a take shows: the front of the lent buffer where its answer is 0
-abbrev pub shownAt : {E : End} → Party E → List (List ℕ)
-shownAt {E} p = (let t = E .take (p .state) (length (p .buffer)) in if eqb (t .number) 0 then front (t .shown) (p .buffer) ∷ [] else [])
+-- what a take shows: a message where its answer is 0
+abbrev pub shownAt : {E : End} → Party E → List ShownMessage
+shownAt {E} p = (let t = E .take (p .state) (length (p .buffer)) in if eqb (t .number) 0 then shownOf (t .message) (p .buffer) ∷ [] else [])
 
 -- what an arrival made complete: what a take shows after it, if one before it showed nothing
-abbrev pub newly : (before after : List (List ℕ)) → List (List ℕ)
+abbrev pub newly : (before after : List ShownMessage) → List ShownMessage
 newly [] after = after
 newly (m ∷ ms) after = []
 

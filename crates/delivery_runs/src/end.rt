@@ -7,10 +7,11 @@ use crate::queue::Queue;
 use channel::Answered;
 use channel::Channel;
 use channel::Parameters;
-use receiver::Taking;
 use sender::Passing;
 use sender::Terms;
 use std::num::wrapping_add_u64;
+use telegram::cutting::Message;
+use telegram::cutting::NONE;
 use telegram::kinds;
 use telegram::payload::Payload;
 use text::reading;
@@ -40,7 +41,7 @@ const STAY: u64 = 984;
 
 const LOSE: u64 = 1014;
 
-// The claims, by number; 0 is none. What a take shows is the next message accepted at the other end.
+// The claims, by number; 0 is none. What a take shows is the next message accepted at the other end, with flags 0.
 const SHOWN: u64 = 1;
 
 // So is what an arrival makes wait; complete is handed out or one more, and at most accepted.
@@ -273,17 +274,11 @@ fn is_message(bytes: &[u8], key: u64, k: u64) -> bool {
     are_of(bytes, start_of(key, k))
 }
 
-// How many bytes a take would show; 0 if it would show nothing.
-fn waiting(channel: Channel) -> usize {
+// The message that a take would show; length 0 if it would show none.
+fn waiting(channel: Channel) -> Message {
     let receiver = channel.receiver;
-    let complete = receiver.complete;
     let t = receiver.take(ROOM);
-    let note = t.note;
-    match note {
-        Taking::Shown => complete.length as usize,
-        Taking::NoneComplete => 0,
-        Taking::ShortBuffer => 0,
-    }
+    t.message
 }
 
 // Whether the repeats are used up when this time has passed.
@@ -396,10 +391,10 @@ impl End {
         sums.with(sent)
     }
 
-    // How many bytes a take would show; 0 if it would show nothing.
-    fn shown(self) -> usize {
+    // The message that a take would show; length 0 if it would show none.
+    fn shown(self) -> Message {
         if !self.live {
-            return 0;
+            return NONE;
         }
         let channel = self.channel;
         waiting(channel)
@@ -557,12 +552,12 @@ impl End {
 
     // What a take at the other end showed, which was so before it.
     pub(crate) fn handed_out(mut self, to: End) -> End {
-        let length = to.shown();
+        let message = to.shown();
         let k = self.sent.handed;
-        if length == 0 {
+        if message.length == 0 {
             return self;
         }
-        if !self.is_next(to, length, k) {
+        if !self.is_next(to, message, k) {
             self.broken = SHOWN;
             return self;
         }
@@ -573,12 +568,13 @@ impl End {
 
     // What an arrival at the other end made wait there, if nothing did before.
     pub(crate) fn made_complete(mut self, before: End, after: End) -> End {
-        let length = after.shown();
+        let waited = before.shown();
+        let message = after.shown();
         let k = self.sent.complete;
-        if (before.shown() != 0) | (length == 0) {
+        if (waited.length != 0) | (message.length == 0) {
             return self;
         }
-        if !self.is_next(after, length, k) {
+        if !self.is_next(after, message, k) {
             self.broken = COMPLETE;
             return self;
         }
@@ -587,14 +583,17 @@ impl End {
         self
     }
 
-    // Whether what the other end would show is message k of this one, and it was accepted.
-    fn is_next(self, to: End, length: usize, k: u64) -> bool {
+    // Whether what the other end would show is message k of this one, with flags 0, and it was accepted.
+    fn is_next(self, to: End, message: Message, k: u64) -> bool {
         let sent = self.sent;
         let buffer = to.buffer;
         if sent.accepted <= k {
             return false;
         }
-        is_message(start_part(&buffer, length), self.key, k)
+        if message.flags != 0 {
+            return false;
+        }
+        is_message(start_part(&buffer, message.length as usize), self.key, k)
     }
 
     // The claims about the messages of this end, to being the other one.
@@ -623,14 +622,14 @@ impl End {
             return 0;
         }
         let sent = self.sent;
-        let length = to.shown();
+        let message = to.shown();
         if sent.complete == sent.handed {
-            if length == 0 {
+            if message.length == 0 {
                 return 0;
             }
             return TAKEN;
         }
-        if self.is_next(to, length, sent.handed) {
+        if self.is_next(to, message, sent.handed) {
             return 0;
         }
         TAKEN

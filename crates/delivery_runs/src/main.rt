@@ -2,7 +2,8 @@
 //
 // Standard input has a run a line. A line that starts with the word `both` is a run of both ends at random, which both.rt describes;
 // standard output has one line for it. Any other is a letter a call, and standard output has a line for each: the letter, the
-// answer's number, and what was handed over or handed out; and an empty line for the line's end.
+// answer's number, and what was handed over or handed out (a message's flags, if they are not 0, and its bytes); and an empty line
+// for the line's end.
 //
 //     f        two fresh ends: block size 2, one repeat allowed; each link holds at most one frame
 //     s m      the near end is offered a message of 5, of 120 bytes
@@ -384,23 +385,28 @@ fn pass(mut ends: Ends, tenths: u64, line: &mut [u8]) -> Ends {
 fn take(mut ends: Ends, buffer: &[u8], line: &mut [u8]) -> Ends {
     let mut far = ends.far;
     let receiver = far.receiver;
-    let complete = receiver.complete;
     let t = receiver.take(buffer.len());
     let note = t.note;
+    let message = t.message;
     let next = t.receiver;
     far.receiver = next;
     ends.far = far;
-    let message = reading::part(buffer, 0, complete.length as usize);
-    ends.at = tell_taking(line, ends.at, note, message);
+    let bytes = reading::part(buffer, 0, message.length as usize);
+    ends.at = tell_taking(line, ends.at, note, message.flags, bytes);
     ends
 }
 
-fn tell_taking(line: &mut [u8], at: usize, note: Taking, message: &[u8]) -> usize {
+fn tell_taking(line: &mut [u8], at: usize, note: Taking, flags: u16, bytes: &[u8]) -> usize {
     match note {
-        Taking::Shown => writing::pairs(line, at, message),
+        Taking::Shown => tell_message(line, at, flags, bytes),
         Taking::NoneComplete => writing::bytes(line, at, b" none"),
         Taking::ShortBuffer => writing::bytes(line, at, b" short"),
     }
+}
+
+fn tell_message(line: &mut [u8], at: usize, flags: u16, bytes: &[u8]) -> usize {
+    let at = writing::flags(line, at, (flags % 16) as u8);
+    writing::pairs(line, at, bytes)
 }
 
 fn tell(line: &mut [u8], at: usize, answer: Answer) -> usize {

@@ -317,16 +317,17 @@ impl Ends {
         self
     }
 
-    // The message is taken at the end that handed over the last Ack, and compared with what was sent.
+    // The message is taken at the end that handed over the last Ack, and compared with what was sent: its bytes, and flags 0.
     fn taken(mut self, message: &[u8], buffer: &[u8]) -> Ends {
         let c = self.from;
         let t = c.take_step(buffer.len());
         let len = t.len;
+        let flags = t.flags;
         let next = t.connection;
         self.from = next;
         let tally = self.tally;
         self.tally = tally.with_message(len);
-        if !same(shown(buffer, len), message) {
+        if (flags != 0) | !same(shown(buffer, len), message) {
             self.wrong = true;
         }
         self

@@ -121,9 +121,9 @@ noChannel =
       sender = record { length = 0; acked = 0; high = 0; next = 0; oldest = 0; count = 0; wait = 0; hold = 0; gap = 0 };
       receiver =
           record {
-            at = record { expected = 0; discarding = false; begun = record { length = 0 }; fill = 0 };
-            back = record { expected = 0; discarding = false; begun = record { length = 0 }; fill = 0 };
-            complete = record { length = 0 };
+            at = record { expected = 0; discarding = false; begun = record { length = 0; flags = 0 }; fill = 0 };
+            back = record { expected = 0; discarding = false; begun = record { length = 0; flags = 0 }; fill = 0 };
+            complete = record { length = 0; flags = 0 };
             ack = record { due = false; ready = false; number = 0 };
           };
       tests = record { out = false; again = false; wait = 0; unanswered = 0; interval = 0 };
@@ -209,22 +209,22 @@ module _ (e : OpenEnd) (room : ℕ) where
   abbrev held : Receiver
   held = e .channel .receiver
 
-  -- row 5, "take with none complete": nothing is shown, and nothing changes
-  pub takenAt-none : held .complete .length ≡ 0 → takenAt e room ≡ record { answer = Busy; len = 0; end = e }
+  -- row 5, "take with none complete": nothing is shown, flags 0, and nothing changes
+  pub takenAt-none : held .complete .length ≡ 0 → takenAt e room ≡ record { answer = Busy; message = record { length = 0; flags = 0 }; end = e }
   unfolding takenAt took
   takenAt-none z = rw z
 
-  -- row 7, "lent buffer shorter than the declared length": nothing is shown, and nothing changes
-  pub takenAt-short : room < held .complete .length → takenAt e room ≡ record { answer = ShortBuffer; len = 0; end = e }
+  -- row 7, "lent buffer shorter than the declared length": nothing is shown, flags 0, and nothing changes
+  pub takenAt-short : room < held .complete .length → takenAt e room ≡ record { answer = ShortBuffer; message = record { length = 0; flags = 0 }; end = e }
   unfolding takenAt took
   takenAt-short h = rw (lt-ltb 0 (held .complete .length) (omega arith), lt-ltb _ _ h)
 
-  -- else the message is shown, all of it, and none is complete any more; nothing else changes
+  -- else the message is shown, all of it, with its flags, and none is complete any more; nothing else changes
   pub takenAt-shown : 0 < held .complete .length → held .complete .length ≤ room
       → takenAt e room
       ≡ record {
         answer = Good;
-        len = held .complete .length;
+        message = held .complete;
         end =
             record {
               transmit = e .transmit;
@@ -233,7 +233,7 @@ module _ (e : OpenEnd) (room : ℕ) where
                   record {
                     parameters = e .channel .parameters;
                     sender = e .channel .sender;
-                    receiver = record { at = held .at; back = held .back; complete = record { length = 0 }; ack = held .ack };
+                    receiver = record { at = held .at; back = held .back; complete = record { length = 0; flags = 0 }; ack = held .ack };
                     tests = e .channel .tests;
                     accept = e .channel .accept;
                   };

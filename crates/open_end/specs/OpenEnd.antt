@@ -92,18 +92,8 @@ takeAnswer Shown = Good
 takeAnswer NoneComplete = Busy
 takeAnswer ShortRoom = ShortBuffer
 
--- the length of what a take shows, of a complete message of n bytes
-abbrev pub lengthShown : Taking → ℕ → ℕ
-lengthShown Shown n = n
-lengthShown NoneComplete n = 0
-lengthShown ShortRoom n = 0
-
 -- take, lent a buffer of room bytes
 unfoldable pub takenAt : OpenEnd → (room : ℕ) → TakeStep
 takenAt e room =
     (let t = took (e .channel .receiver) room in
-    record {
-      answer = takeAnswer (t .note);
-      len = lengthShown (t .note) (e .channel .receiver .complete .length);
-      end = withChannel e (withReceiver (e .channel) (t .receiver));
-    })
+    record { answer = takeAnswer (t .note); message = t .message; end = withChannel e (withReceiver (e .channel) (t .receiver)) })

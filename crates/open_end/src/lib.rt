@@ -5,11 +5,12 @@
 ghost use mathlib.Core.Path.{_≡_};
 ghost use lib.ListN.{length, take, drop};
 ghost use Rattle.telegram.specs.Cutting.{longest};
-ghost use Rattle.open_end.specs.OpenEnd.{noFrame, noChannel, unopened, freshEnd, courseOf, arrivedAt, bufferedAt, elapsedAt, frameOn, dueAt, sentAt, takeAnswer, lengthShown, takenAt};
+ghost use Rattle.open_end.specs.OpenEnd.{noFrame, noChannel, unopened, freshEnd, courseOf, arrivedAt, bufferedAt, elapsedAt, frameOn, dueAt, sentAt, takeAnswer, takenAt};
 use channel::Channel;
 use channel::Parameters;
 use receiver::Taking;
 use sender::Terms;
+use telegram::cutting::Message;
 use telegram::kinds::Parameters as Fields;
 use telegram::kinds::sort;
 use telegram::payload::Payload;
@@ -58,10 +59,10 @@ pub struct Due {
     pub end: OpenEnd,
 }
 
-// What taking a message comes to: where it is shown, len is its declared length, and else 0.
+// What taking a message comes to: the message shown, its length and its flags, and none with a refusal.
 pub struct TakeStep {
     pub answer: channel::Answer,
-    pub len: usize,
+    pub message: Message,
     pub end: OpenEnd,
 }
 
@@ -114,17 +115,6 @@ fn take_answer(note: Taking) -> channel::Answer
         Taking::Shown => channel::Answer::Good,
         Taking::NoneComplete => channel::Answer::Busy,
         Taking::ShortBuffer => channel::Answer::ShortBuffer,
-    }
-}
-
-// How much of a message of n bytes a take shows.
-fn length_shown(note: Taking, n: u16) -> usize
-    ensures { λ r. ⌜ r ≡ lengthShown note n ⌝ }
-{
-    match note {
-        Taking::Shown => n as usize,
-        Taking::NoneComplete => 0,
-        Taking::ShortBuffer => 0,
     }
 }
 
@@ -251,15 +241,15 @@ impl OpenEnd {
     {
         let mut ch = self.channel;
         let receiver = ch.receiver;
-        let complete = receiver.complete;
         let t = receiver.take(room);
         let note = t.note;
+        let message = t.message;
         let next = t.receiver;
         ch.receiver = next;
         self.channel = ch;
         TakeStep {
             answer: take_answer(note),
-            len: length_shown(note, complete.length),
+            message,
             end: self,
         }
     }

@@ -9,6 +9,7 @@ use mathlib.Core.Path.{_≡_, refl, sym, _∙_}
 use lib.ListN.{length}
 use Rattle.laws.proofs.Branches.{and-off′}
 use Rattle.laws.proofs.Cases.{by, by-eq, by-lt, either}
+use Rattle.telegram.specs.Forms.{Bytes}
 use Rattle.telegram.specs.declared.kinds.Telegram.{Telegram}
 use Rattle.telegram.specs.declared.kinds.Telegram.the-variants.{Data, Ack, Test, Break, Disconnect, Setup, Accept, Malformed}
 use Rattle.settings.specs.declared.Settings.{Settings}
@@ -17,9 +18,10 @@ use Rattle.sender.specs.declared.Handed.{Handed}
 use Rattle.sender.specs.declared.Offered.{Offered}
 use Rattle.sender.specs.declared.Passed.{Passed}
 use Rattle.sender.specs.Sending.{unacknowledged}
-use Rattle.receiver.specs.Receiving.{none, following, settled, numbered, discarded, used, completed, received, took}
+use Rattle.telegram.specs.Cutting.{none}
+use Rattle.receiver.specs.Receiving.{following, settled, numbered, discarded, used, completed, received, took}
 use Rattle.receiver.specs.declared.AckDue.{AckDue}
-use Rattle.receiver.specs.declared.Message.{Message}
+use Rattle.telegram.specs.declared.cutting.Message.{Message}
 use Rattle.receiver.specs.declared.Receiver.{Receiver}
 use Rattle.receiver.specs.declared.Received.{Received}
 use Rattle.receiver.specs.declared.Standing.{Standing}
@@ -35,26 +37,30 @@ use Rattle.channel.proofs.Handing.{DueOutcome, accept-goes, test-goes, ack-goes
 use Rattle.channel.proofs.Passing.{TestEnds, TimeOutcome, repeats-used-up, runs-on, tests-used-up, test-again, time-outcome, SendOutcome, message-accepted, in-sending, bad-length, send-outcome}
 use Rattle.arrival.specs.Arrived.{arrived}
 use Rattle.arrival.proofs.Arriving.{ArrivalOutcome, data-came, ack-came, test-came, break-came, disconnect-came, setup-came, accept-undue, accept-bad, accept-came, malformed-came, arrival-outcome}
-use Rattle.reachable.specs.Reachable.{Agreed, Ours, Stands, Receives, Tested}
+use Rattle.reachable.specs.Reachable.{Agreed, Ours, Declared, Stands, Receives, Tested}
 use Rattle.reachable.proofs.Sending.{Kept, fresh-kept, heard-kept, pass-kept, hand-kept, offer-kept}
 
 -- ---- the receiving half
 
+-- no message
+pub none-declared : {limit : ℕ} → Declared limit none
+none-declared = record { within = zero-le; flags = omega arith; none = λ _. refl }
+
 -- nothing begun
 pub nothing-stands : {limit : ℕ} (n : ℕ) (discarding : Bool) → n < 16 → Stands limit (record { expected = n; discarding = discarding; begun = none; fill = 0 })
-nothing-stands n discarding h = record { expected = h; within = zero-le; empty = λ _. refl; short = λ some. absurd (omega arith); thrown = λ _. refl }
+nothing-stands n discarding h = record { expected = h; begun = none-declared; empty = λ _. refl; short = λ some. absurd (omega arith); thrown = λ _. refl }
 
 module _ {limit : ℕ} {r : Receiver} (k : Receives limit r) where
   -- what a frame leaves: a standing, a complete message or none, and the Ack for it, or what was there before
-  settled-receives : (asks last : Bool) (standing : Standing) (message : Message) → Stands limit standing → message .length ≤ limit
+  settled-receives : (asks last : Bool) (standing : Standing) (message : Message) → Stands limit standing → Declared limit message
       → Receives limit (settled r asks last standing message)
   unfolding settled
-  settled-receives asks last standing message h within =
+  settled-receives asks last standing message h d =
       record {
         at = h;
         back = by (Stands limit) (asks || last) (λ _. h) (λ _. k .back);
         ack = by (λ (x : AckDue). x .number < 16) asks (λ _. h .expected) (λ _. k .ack);
-        complete = within;
+        complete = d;
       }
 
   next-number : following (r .at .expected) < 16
@@ -65,43 +71,43 @@ module _ {limit : ℕ} {r : Receiver} (k : Receives limit r) where
   unfolding numbered
   discarded-receives asks last = settled-receives asks last _ _ (nothing-stands _ (not last) next-number) (k .complete)
 
-  -- the message that a frame belongs to is within the limit
-  brings-within : {p : List ℕ} {room : ℕ} {m : Message} {fill : ℕ} → Brings limit r p room m fill → m .length ≤ limit
-  brings-within (at-first f two some most) = most
-  brings-within (at-later f held) = k .at .within
+  -- the message that a frame of bytes belongs to is within the limit, with four flags
+  brings-declared : {p : List ℕ} {room : ℕ} {m : Message} {fill : ℕ} → Bytes p → Brings limit r p room m fill → Declared limit m
+  brings-declared h (at-first f two some most) = let high = h 0 in record { within = most; flags = omega arith; none = λ z. absurd (omega arith) }
+  brings-declared h (at-later f held) = k .at .begun
 
   -- one that is used leaves bytes to come
-  used-receives : (asks : Bool) (m : Message) (fill : ℕ) → m .length ≤ limit → fill < m .length → Receives limit (used r asks m fill)
+  used-receives : (asks : Bool) (m : Message) (fill : ℕ) → Declared limit m → fill < m .length → Receives limit (used r asks m fill)
   unfolding numbered
-  used-receives asks m fill within less =
+  used-receives asks m fill d less =
       settled-receives asks false _ _
-      (record { expected = next-number; within = within; empty = λ z. absurd (omega arith); short = λ _. less; thrown = λ e. absurd (false≢true e) })
+      (record { expected = next-number; begun = d; empty = λ z. absurd (omega arith); short = λ _. less; thrown = λ e. absurd (false≢true e) })
       (k .complete)
 
-  completed-receives : (asks : Bool) (m : Message) → m .length ≤ limit → Receives limit (completed r asks m)
+  completed-receives : (asks : Bool) (m : Message) → Declared limit m → Receives limit (completed r asks m)
   unfolding numbered
-  completed-receives asks m within = settled-receives asks true _ m (nothing-stands _ false next-number) within
+  completed-receives asks m d = settled-receives asks true _ m (nothing-stands _ false next-number) d
 
-  data-receives : {asks last : Bool} {number : ℕ} {p : List ℕ} {room : ℕ} {x : Received} → Outcome limit r asks last number p room x → Receives limit (x .receiver)
-  data-receives (out-of-place n) = settled-receives _ _ _ _ (k .at) (k .complete)
-  data-receives (untaken e w) = settled-receives _ _ _ _ (k .at) (k .complete)
-  data-receives (thrown-away e w t) = discarded-receives _ _
-  data-receives (in-order o (breaks c)) = discarded-receives _ _
-  data-receives (in-order o (short-first b e s)) = discarded-receives _ _
-  data-receives (in-order o (short-later f s)) = k
-  data-receives (in-order o (goes-on b l less roomy)) = used-receives _ _ _ (brings-within b) less
-  data-receives (in-order o (ends b l all roomy)) = completed-receives _ _ (brings-within b)
+  data-receives : {asks last : Bool} {number : ℕ} {p : List ℕ} {room : ℕ} {x : Received} → Bytes p → Outcome limit r asks last number p room x → Receives limit (x .receiver)
+  data-receives h (out-of-place n) = settled-receives _ _ _ _ (k .at) (k .complete)
+  data-receives h (untaken e w) = settled-receives _ _ _ _ (k .at) (k .complete)
+  data-receives h (thrown-away e w t) = discarded-receives _ _
+  data-receives h (in-order o (breaks c)) = discarded-receives _ _
+  data-receives h (in-order o (short-first b e s)) = discarded-receives _ _
+  data-receives h (in-order o (short-later f s)) = k
+  data-receives h (in-order o (goes-on b l less roomy)) = used-receives _ _ _ (brings-declared h b) less
+  data-receives h (in-order o (ends b l all roomy)) = completed-receives _ _ (brings-declared h b)
 
-  received-receives : (t : Telegram) (p : List ℕ) (room : ℕ) → Receives limit (received limit r t p room .receiver)
+  received-receives : (t : Telegram) (p : List ℕ) (room : ℕ) → Bytes p → Receives limit (received limit r t p room .receiver)
   unfolding received
-  received-receives (Data ar last number) p room = data-receives (outcome limit r ar last number p room)
-  received-receives (Ack ready number) p room = k
-  received-receives Test p room = k
-  received-receives Break p room = k
-  received-receives Disconnect p room = k
-  received-receives (Setup s) p room = k
-  received-receives (Accept s) p room = k
-  received-receives Malformed p room = k
+  received-receives (Data ar last number) p room h = data-receives h (outcome limit r ar last number p room)
+  received-receives (Ack ready number) p room h = k
+  received-receives Test p room h = k
+  received-receives Break p room h = k
+  received-receives Disconnect p room h = k
+  received-receives (Setup s) p room h = k
+  received-receives (Accept s) p room h = k
+  received-receives Malformed p room h = k
 
   took-receives : (room : ℕ) → Receives limit (took r room .receiver)
   took-receives room = go (take-outcome r room)
@@ -109,7 +115,16 @@ module _ {limit : ℕ} {r : Receiver} (k : Receives limit r) where
       go : {x : Took} → TakeOutcome r room x → Receives limit (x .receiver)
       go (none-complete w) = k
       go (short-buffer w s) = k
-      go (shows w f) = record { at = k .at; back = k .back; ack = k .ack; complete = zero-le }
+      go (shows w f) = record { at = k .at; back = k .back; ack = k .ack; complete = none-declared }
+
+  -- a take reports four flags
+  pub took-reports : (room : ℕ) → took r room .message .flags < 16
+  took-reports room = go (take-outcome r room)
+    where
+      go : {x : Took} → TakeOutcome r room x → x .message .flags < 16
+      go (none-complete w) = omega arith
+      go (short-buffer w s) = omega arith
+      go (shows w f) = k .complete .flags
 
 -- ---- the tests
 
@@ -183,13 +198,13 @@ fresh-open limit s p a o =
       ours = o;
       sender = fresh-kept limit (p .terms);
       testing = none-out refl;
-      receiver = record { at = nothing-stands 0 false (omega arith); back = nothing-stands 0 false (omega arith); ack = omega arith; complete = zero-le };
+      receiver = record { at = nothing-stands 0 false (omega arith); back = nothing-stands 0 false (omega arith); ack = omega arith; complete = none-declared };
     }
 
 module _ {limit : ℕ} {own : Settings} {c : Channel} (k : Open limit own c) where
-  -- an arrival, by its kind
-  pub arrived-open : (t : Telegram) (p : List ℕ) (room : ℕ) → Open limit own (arrived limit c t p room .channel)
-  arrived-open t p room = go (received-receives (k .receiver) t p room) (heard-kept (k .agreed) (k .sender) t) (arrival-outcome limit c p room t)
+  -- an arrival of bytes, by its kind
+  pub arrived-open : (t : Telegram) (p : List ℕ) (room : ℕ) → Bytes p → Open limit own (arrived limit c t p room .channel)
+  arrived-open t p room bytes = go (received-receives (k .receiver) t p room bytes) (heard-kept (k .agreed) (k .sender) t) (arrival-outcome limit c p room t)
     where
       go : {r : Received} {h : Heard} {t : Telegram} {x : Answered} → Receives limit (r .receiver) → Kept limit (c .parameters .terms) (h .sender)
           → ArrivalOutcome c r h t x → Open limit own (x .channel)

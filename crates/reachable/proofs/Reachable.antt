@@ -23,12 +23,12 @@ use Rattle.channel.specs.declared.Tests.{Tests}
 use Rattle.channel.specs.declared.Due.{Due as ChannelDue}
 use Rattle.channel.specs.Opened.{testDue, due}
 use Rattle.channel.proofs.Handing.{DataTurn, DueOutcome, accept-goes, test-goes, ack-goes, frame-goes, none-goes, other-length, due-outcome, due-sized}
-use Rattle.open_end.specs.OpenEnd.{noChannel, frameOn, dueAt}
+use Rattle.open_end.specs.OpenEnd.{noChannel, frameOn, dueAt, takenAt}
 use Rattle.connection.specs.declared.Connection.{Connection}
-use Rattle.connection.specs.Calls.{closedDue, requestDue, openDue, dueOf}
+use Rattle.connection.specs.Calls.{closedDue, requestDue, openDue, dueOf, openTaken, takenBy}
 use Rattle.reachable.specs.Reachable.{Tally, start, Bounded, Agreed, Ours, Sends, Receives, Tested, Framed, Untested, Holds, ReachableHolds}
 use Rattle.reachable.proofs.Windows.{kept-sends, kept-due}
-use Rattle.reachable.proofs.Channels.{nothing-stands, Testing, none-out, one-waits, one-again, testing-tested, none-tested, untested-due}
+use Rattle.reachable.proofs.Channels.{none-declared, nothing-stands, took-reports, Testing, none-out, one-waits, one-again, testing-tested, none-tested, untested-due}
 use Rattle.reachable.proofs.Stages.{due-now, awaited, Stage, at-rest, leaving, requesting, agreeing, talking, stage-few, run-stage}
 
 -- ---- the parts that no call of a closed or opening record touches
@@ -51,7 +51,7 @@ empty-sends =
 
 empty-receives : {limit : ℕ} → Receives limit (noChannel .receiver)
 empty-receives =
-    record { at = nothing-stands 0 false (omega arith); back = nothing-stands 0 false (omega arith); ack = omega arith; complete = zero-le }
+    record { at = nothing-stands 0 false (omega arith); back = nothing-stands 0 false (omega arith); ack = omega arith; complete = none-declared }
 
 empty-tested : Tested 0 (noChannel .tests)
 empty-tested = record { unanswered = zero-le; again = λ e. absurd (false≢true e); waits = λ e. absurd (false≢true e) }
@@ -94,6 +94,14 @@ stage-receives (leaving f x) = empty-receives
 stage-receives (requesting s a) = empty-receives
 stage-receives (agreeing s k a x) = empty-receives
 stage-receives (talking s k l x o) = o .receiver
+
+stage-reports : {limit : ℕ} {t : Tally} {c : Connection} → Stage limit t c → (room : ℕ) → takenBy c room .flags < 16
+unfolding takenBy openTaken takenAt
+stage-reports (at-rest f) room = omega arith
+stage-reports (leaving f x) room = omega arith
+stage-reports (requesting s a) room = omega arith
+stage-reports (agreeing s k a x) room = omega arith
+stage-reports (talking s k l x o) room = took-reports (o .receiver) room
 
 stage-tested : {limit : ℕ} {t : Tally} {c : Connection} → Stage limit t c → Tested (c .end .channel .parameters .allowed) (c .end .channel .tests)
 stage-tested (at-rest f) = empty-tested
@@ -295,6 +303,7 @@ stage-holds k =
       ours = stage-ours k;
       sends = stage-sends k;
       receives = stage-receives k;
+      reports = stage-reports k;
       tested = stage-tested k;
       awake = record { opening = stage-opening k; sending = stage-sending k; frame = stage-frame k; testing = stage-testing k; answering = stage-answering k; leaving = stage-leaving k };
       framed = stage-framed k;

@@ -7,6 +7,7 @@ use mathlib.Core.List.{List, [], _∷_}
 use mathlib.Core.Logic.{_≢_}
 use mathlib.Core.Path.{_≡_, refl}
 use lib.ListN.{drop}
+use lib.Seq.{getD-drop}
 use Rattle.laws.proofs.Cases.{by, by-not, by-eq, by-lt, by-le, either}
 use Rattle.telegram.specs.Kinds.{badBlock, sorted}
 use Rattle.telegram.specs.Time.{tenthsOf}
@@ -228,6 +229,10 @@ agrees-stage s k a x Test = agreeing s k a x
 agrees-stage s k a x Break = agreeing s k a x
 agrees-stage s k a x (Setup p) = agreeing s k a x
 
+-- the bytes behind the first of a frame
+rest-bytes : (s : List ℕ) → Bytes s → Bytes (drop 1 s)
+rest-bytes s h i = rw (getD-drop 1 s i 0) (h (1 + i))
+
 comes-stage : {t : Tally} {c : Connection} (limit id : ℕ) (s : List ℕ) (room : ℕ) → Bytes s → Stage limit t c → Stage limit t (arrived limit c id s room .connection)
 unfolding arrived onOpen arrivedAt
 comes-stage limit id s room h (at-rest f) = at-rest f
@@ -238,7 +243,7 @@ comes-stage {t} {c} limit id s room h (agreeing f k a x) =
     by-not (Leads limit t) (hears c id) (λ _. agreeing f k a x) (λ _. agrees-stage f k a x (sorted s .kind))
 comes-stage {t} {c} limit id s room h (talking {ch = ch} f k l x o) =
     by-not (Leads limit t) (hears c id) (λ _. talking f k l x o)
-    (λ _. settles-stage ch f k l x (courseOf (channelArrived limit ch (sorted s .kind) (drop 1 s) room .answer)) (arrived-open o (sorted s .kind) (drop 1 s) room))
+    (λ _. settles-stage ch f k l x (courseOf (channelArrived limit ch (sorted s .kind) (drop 1 s) room .answer)) (arrived-open o (sorted s .kind) (drop 1 s) room (rest-bytes s h)))
 
 -- ---- every list of calls
 

@@ -9,6 +9,7 @@ use lib.ListN.{length}
 use Rattle.laws.specs.If.{if_then_else_}
 use Rattle.telegram.specs.Outgoing.{bytesOf}
 use Rattle.telegram.specs.Forms.{Bytes}
+use Rattle.telegram.specs.declared.cutting.Message.{Message}
 use Rattle.settings.specs.declared.Settings.{Settings}
 use Rattle.sender.specs.declared.Terms.{Terms}
 use Rattle.sender.specs.declared.Sender.{Sender}
@@ -149,10 +150,16 @@ pub record Sends (limit : ℕ) (t : Terms) (s : Sender) : Type 0 where
   -- a wait runs only behind a frame with AR: the last of a block, or of the message
   pub asked : 0 < s .wait → (s .next % t .block ≡ 0) ⊎ (s .length + 2 ≤ 7 * s .next)
 
--- where the receiving half stands: numbers have four bits, and a message begun is within the limit, with bytes still to come
+-- a message begun or complete is within the limit, its flags are 0 to 15, and where there is none they are 0
+pub record Declared (limit : ℕ) (m : Message) : Type 0 where
+  pub within : m .length ≤ limit
+  pub flags : m .flags < 16
+  pub none : m .length ≡ 0 → m .flags ≡ 0
+
+-- where the receiving half stands: numbers have four bits, and a message begun has bytes still to come
 pub record Stands (limit : ℕ) (x : Standing) : Type 0 where
   pub expected : x .expected < 16
-  pub within : x .begun .length ≤ limit
+  pub begun : Declared limit (x .begun)
   pub empty : x .begun .length ≡ 0 → x .fill ≡ 0
   pub short : 0 < x .begun .length → x .fill < x .begun .length
   -- while frames are thrown away no message is begun
@@ -163,7 +170,7 @@ pub record Receives (limit : ℕ) (r : Receiver) : Type 0 where
   pub at : Stands limit (r .at)
   pub back : Stands limit (r .back)
   pub ack : r .ack .number < 16
-  pub complete : r .complete .length ≤ limit
+  pub complete : Declared limit (r .complete)
 
 -- the tests: within their allowance; a repeat is kept only for a test that is out, and one that is out waits or has its repeat kept
 pub record Tested (allowed : ℕ) (t : Tests) : Type 0 where
@@ -218,6 +225,8 @@ pub record Holds (limit : ℕ) (r : Reached) : Type 0 where
   pub ours : r .connection .phase ≡ 3 → Ours (r .connection .settings) (r .connection .end .channel .parameters)
   pub sends : Sends limit (r .connection .end .channel .parameters .terms) (r .connection .end .channel .sender)
   pub receives : Receives limit (r .connection .end .channel .receiver)
+  -- so a take, which "reports the four flags with the message" (02, request 1), reports 0 to 15
+  pub reports : (room : ℕ) → takenBy (r .connection) room .flags < 16
   pub tested : Tested (r .connection .end .channel .parameters .allowed) (r .connection .end .channel .tests)
   pub awake : Awake (r .connection)
   pub framed : (m : List ℕ) → dueOf (r .connection) m .given ≡ true → Framed (r .connection) (dueOf (r .connection) m)

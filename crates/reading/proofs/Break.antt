@@ -197,5 +197,5 @@ module _ (limit : ℕ) where
 
   -- "else to the start"
   pub break-restarts : {fs : List (List ℕ)} → Every Inner fs → (b : List ℕ) (k : Receipt)
-      → breaks (reads limit (reading fresh b k) fs) .receiver .at ≡ record { expected = 0; discarding = false; begun = record { length = 0 }; fill = 0 }
+      → breaks (reads limit (reading fresh b k) fs) .receiver .at ≡ record { expected = 0; discarding = false; begun = record { length = 0; flags = 0 }; fill = 0 }
   break-restarts every b k = inner-back every (reading fresh b k) .back

@@ -15,7 +15,7 @@ use Rattle.telegram.specs.declared.kinds.Telegram.the-variants.{Ack, Test, Disc
 use Rattle.telegram.proofs.RoundTrip.{ack-sorted, test-sorted, disconnect-sorted, setup-sorted, accept-sorted}
 use Rattle.telegram.proofs.Forms.{sorts}
 use Rattle.telegram.proofs.Cut.{published, cutting-length}
-use Rattle.telegram.proofs.Rules.{writes, cut}
+use Rattle.telegram.proofs.Rules.{declares-only, writes, cut}
 use Rattle.opening.specs.Opening.{requestOf, replyOf}
 use Rattle.opening.specs.Forms.{RequestForm, as-open, ReplyForm, as-positive, as-refused}
 use Rattle.opening.specs.declared.Request.the-variants.{Open, Malformed as NoRequest}
@@ -28,10 +28,10 @@ use Rattle.sender.specs.Sending.{fresh as freshSender}
 use Rattle.sender.specs.Writing.{Written, written}
 use Rattle.sender.proofs.Writing.{writes as sender-writes}
 use Rattle.receiver.specs.declared.Receipt.{Receipt}
-use Rattle.receiver.specs.Receiving.{fresh as freshReceiver, shown}
+use Rattle.receiver.specs.Receiving.{took, fresh as freshReceiver, shown}
 use Rattle.reading.specs.Reading.{Reading, Read, reads}
-use Rattle.reading.specs.Demand2.{Sendable, Ready, Sent, Free, Demand2Holds}
-use Rattle.reading.proofs.Whole.{reads-cutting, read-shown}
+use Rattle.reading.specs.Demand2.{Sendable, Ready, Sent, Free, flagged, Demand2Holds}
+use Rattle.reading.proofs.Whole.{reads-cutting, reads-flagged, read-shown, read-taken}
 
 -- what a reader takes
 
@@ -67,26 +67,34 @@ refused-only t (formed (as-refused o a b c d f h k e)) = (rw e, rw e)
 
 -- whole messages
 
-module _ (limit : ℕ) (two : limit < 65536) where
+module _ (limit : ℕ) (twelve : limit ≤ 4095) where
   sent : (t : Terms) (s : Sender) (m : List ℕ) → Sendable limit m → Ready t s → Sent t s m (written limit t s m)
   sent t s m f r =
       let e = sender-writes limit t s m (record { free = r .length; some = f .some; within = f .within }) (r .hold) (r .gap) (r .number) (r .some) (omega arith) in
       record { frames = ap (λ (w : Written). w .frames) e; note = ap (λ (w : Written). w .note) e; sender = rw (e, cutting-length m (t .block) (s .oldest)) }
 
-  read-back : (m : List ℕ) (block number : ℕ) (h : Reading) → Sendable limit m → Free m number h → Read m number (h .buffer) (reads limit h (cutting m block number))
-  read-back m block number h f r = reads-cutting limit m number (h .buffer) (f .some) (f .within) (omega arith) (r .roomy) block (r .small) h (r .idle) refl
+  read-back : (m : List ℕ) (block number : ℕ) (h : Reading) → Sendable limit m → Free m number h → Read m 0 number (h .buffer) (reads limit h (cutting m block number))
+  read-back m block number h f r = reads-cutting limit m number (h .buffer) (f .some) (f .within) twelve (r .roomy) block (r .small) h (r .idle) refl
+
+  flagged-back : (m : List ℕ) (flags block number : ℕ) (h : Reading) → flags < 16 → Sendable limit m → Free m number h
+      → Read m flags number (h .buffer) (reads limit h (flagged flags (cutting m block number)))
+  flagged-back m flags block number h four f r =
+      reads-flagged limit m flags number (h .buffer) (f .some) (f .within) twelve four (r .roomy) block (r .small) h (r .idle) refl
 
   arrives : (t : Terms) (s : Sender) (m : List ℕ) (h : Reading) → Sendable limit m → Ready t s → Free m (s .oldest) h
-      → shown (reads limit h (written limit t s m .frames) .receiver) (reads limit h (written limit t s m .frames) .buffer) ≡ m
+      → (let r = reads limit h (written limit t s m .frames) in
+      (shown (r .receiver) (r .buffer) ≡ m) × (took (r .receiver) (length (r .buffer)) .message ≡ record { length = length m; flags = 0 }))
   arrives t s m h f r a =
-      rw (sent t s m f r .frames) (read-shown m (s .oldest) (h .buffer) (reads limit h (cutting m (t .block) (s .oldest))) (read-back m (t .block) (s .oldest) h f a))
+      let e = read-back m (t .block) (s .oldest) h f a in
+      rw (sent t s m f r .frames) (read-shown m 0 (s .oldest) (h .buffer) _ e, read-taken m 0 (s .oldest) (h .buffer) _ (f .some) e)
 
 pub demand2 : Demand2Holds
-demand2 limit two =
+demand2 limit twelve =
     record {
       sorts = sorts;
       requests = request-reads;
       replies = λ r s b. reply-reads s b r;
+      declares = declares-only;
       writes = writes;
       opens = opening-writes;
       ackBack = λ ready n h. kind (ack-sorted ready n h);
@@ -105,16 +113,18 @@ demand2 limit two =
       requestOnly = λ s b u r e. request-only (request-reads s b (Open u r) .0 e);
       positiveOnly = λ s b r t e. positive-only (reply-reads s b r (Positive t) .0 e);
       refusedOnly = λ s b r o t e. refused-only t (reply-reads s b r (Refused o) .0 e);
-      published = λ m block first f. published limit (omega arith) m block first (f .some) (f .within);
+      published = λ m block first f. published limit twelve m block first (f .some) (f .within);
       cut = λ m block first f. let h = f .within in cut m block first (omega arith);
-      sent = sent limit two;
-      readBack = read-back limit two;
-      arrives = arrives limit two;
+      sent = sent limit twelve;
+      readBack = read-back limit twelve;
+      flaggedBack = flagged-back limit twelve;
+      arrives = arrives limit twelve;
     }
 
--- fresh ends meet what it assumes: every message of 1 to 1,024 bytes arrives, at every block size and into every buffer of 1,024
+-- fresh ends meet what it assumes: every message of 1 to 1,024 bytes arrives, with flags 0, at every block size and into every buffer of 1,024
 pub fresh-arrives : (t : Terms) (m b : List ℕ) (n : Receipt) → 1 ≤ t .block → t .block ≤ 15 → Sendable 1024 m → 1024 ≤ length b
-    → let h = reads 1024 (record { receiver = freshReceiver; buffer = b; note = n }) (written 1024 t freshSender m .frames) in shown (h .receiver) (h .buffer) ≡ m
+    → let h = reads 1024 (record { receiver = freshReceiver; buffer = b; note = n }) (written 1024 t freshSender m .frames) in
+    (shown (h .receiver) (h .buffer) ≡ m) × (took (h .receiver) (length (h .buffer)) .message ≡ record { length = length m; flags = 0 })
 fresh-arrives t m b n low high f roomy =
     let within = f .within in
     demand2 1024 (omega arith) .arrives t freshSender m (record { receiver = freshReceiver; buffer = b; note = n }) f

@@ -10,7 +10,6 @@ use mathlib.Core.List.{List, [], _∷_, _++_}
 use lib.ListN.{length, drop, replicate}
 use Rattle.telegram.specs.Cutting.{cutting}
 use Rattle.telegram.specs.Kinds.{sorted}
-use Rattle.receiver.specs.declared.Message.{Message}
 use Rattle.receiver.specs.declared.Receiver.{Receiver}
 use Rattle.receiver.specs.declared.Receipt.{Receipt}
 use Rattle.receiver.specs.declared.Receipt.the-variants.{Used, Complete, ThrownAway, OutOfPlace, Untaken, ShortFirst, ShortLater, Broken, NoData}
@@ -100,11 +99,8 @@ pub record ThrownThrough (limit number : ℕ) (b : List ℕ) (h : Reading) (fs :
   pub buffer : reads limit h fs .buffer ≡ b
   pub idle : Idle ((number + length fs) % 16) (reads limit h fs .receiver)
 
-abbrev ofLength : ℕ → Message
-ofLength n = record { length = n }
-
 bare-idle : {number : ℕ} {b : List ℕ} {h : Reading} → Bare false number b h → Idle number (h .receiver)
-bare-idle q = record { expected = q .expected; discarding = q .discards; begun = ap ofLength (q .begun); complete = ap ofLength (q .none-waits) }
+bare-idle q = record { expected = q .expected; discarding = q .discards; begun = q .begun; complete = q .none-waits }
 
 one-on : (number k : ℕ) → ((number + 1) % 16 + k) % 16 ≡ (number + suc k) % 16
 one-on number k = omega arith
@@ -124,16 +120,16 @@ module _ (limit : ℕ) where
         idle = subst (λ (n : ℕ). Idle n (reads limit h (s ∷ rest) .receiver)) (one-on number (length rest)) (t .idle);
       }
 
-  module _ (h : Reading) (m : List ℕ) (block : ℕ) (some : 0 < length m) (most : length m ≤ limit) (two : limit ≤ 65535) (roomy : length m ≤ length (h .buffer)) where
+  module _ (h : Reading) (m : List ℕ) (block : ℕ) (some : 0 < length m) (most : length m ≤ limit) (twelve : limit ≤ 4095) (roomy : length m ≤ length (h .buffer)) where
     -- the next message is read whole where nothing is begun
-    idle-whole : {n : ℕ} (g : Reading) → n < 16 → Idle n (g .receiver) → g .buffer ≡ h .buffer → Read m n (h .buffer) (reads limit g (cutting m block n))
-    idle-whole {n} g small i e = reads-cutting limit m n (h .buffer) some most two roomy block small g i e
+    idle-whole : {n : ℕ} (g : Reading) → n < 16 → Idle n (g .receiver) → g .buffer ≡ h .buffer → Read m 0 n (h .buffer) (reads limit g (cutting m block n))
+    idle-whole {n} g small i e = reads-cutting limit m n (h .buffer) some most twelve roomy block small g i e
 
     -- "That frame is numbered and writes nothing; if it had no EOM, the following in-order frames are numbered, acknowledged and thrown away, answer 0, up to and including the next EOM";
     -- behind them the cutting of a message, numbered from there, gives the message
     pub given-up-whole : {asks : Bool} {number : ℕ} {s : List ℕ} {fs : List (List ℕ)} → Frame asks false number s → GivenUp ((arrives limit h (sorted s .kind) (drop 1 s)) .note) → UpToEnd ((number + 1) % 16) fs
         → ThrownThrough limit ((number + 1) % 16) (h .buffer) (arrives limit h (sorted s .kind) (drop 1 s)) fs
-        × Read m ((number + 1 + length fs) % 16) (h .buffer) (reads limit h (s ∷ (fs ++ cutting m block ((number + 1 + length fs) % 16))))
+        × Read m 0 ((number + 1 + length fs) % 16) (h .buffer) (reads limit h (s ∷ (fs ++ cutting m block ((number + 1 + length fs) % 16))))
     unfolding reads
     given-up-whole {asks} {number} {s} {fs} f g u =
         let h′ = arrives limit h (sorted s .kind) (drop 1 s) in
@@ -143,7 +139,7 @@ module _ (limit : ℕ) where
 
     -- a message that is given up at its EOM frame has ended there: the next one is read whole at once
     pub ended-whole : {asks : Bool} {number : ℕ} {s : List ℕ} → Frame asks true number s → GivenUp ((arrives limit h (sorted s .kind) (drop 1 s)) .note)
-        → Read m ((number + 1) % 16) (h .buffer) (reads limit h (s ∷ cutting m block ((number + 1) % 16)))
+        → Read m 0 ((number + 1) % 16) (h .buffer) (reads limit h (s ∷ cutting m block ((number + 1) % 16)))
     unfolding reads
     ended-whole {asks} {number} {s} f g =
         let a = given-up-arrives limit h asks true number s f g in

@@ -4,3 +4,4 @@ pub mod Demand2
 pub mod Lists
 pub mod GivenUp
 pub mod Break
+pub mod Flags

@@ -1,15 +1,16 @@
 -- Demand 2: telegrams and opening frames in bytes, both ways; the cutting; and a message sent and read back.
-use Prim.Native.Nat.{ℕ, _+_, _%_, _≤_, _<_}
+use Prim.Native.Nat.{ℕ, _+_, _*_, _%_, _≤_, _<_}
 use mathlib.Core.Bool.{Bool}
 use mathlib.Core.Logic.{_↔_}
 use mathlib.Core.Path.{_≡_}
-use mathlib.Core.List.{List}
-use lib.ListN.{length, take, set}
+use mathlib.Core.List.{List, [], _∷_}
+use lib.ListN.{length, take, set, getD}
 use Rattle.telegram.specs.Outgoing.{bytesOf}
 use Rattle.telegram.specs.Kinds.{sorted, ackOf, testOf, disconnectOf, setupOf, acceptOf}
-use Rattle.telegram.specs.Cutting.{cutting}
+use Rattle.telegram.specs.Cutting.{declaredOf, cutting}
 use Rattle.telegram.specs.Published.{Published}
-use Rattle.telegram.specs.Forms.{Bytes, Taken, Form, Writes, CutInBytes}
+use Rattle.telegram.specs.Forms.{Bytes, Taken, Form, Declares, Writes, CutInBytes}
+use Rattle.telegram.specs.declared.cutting.Message.{Message}
 use Rattle.telegram.specs.declared.kinds.Parameters.{Parameters}
 use Rattle.telegram.specs.declared.kinds.Telegram.{Telegram}
 use Rattle.telegram.specs.declared.kinds.Telegram.the-variants.{Ack, Test, Disconnect, Setup, Accept, Malformed}
@@ -23,7 +24,7 @@ use Rattle.sender.specs.declared.Terms.{Terms}
 use Rattle.sender.specs.declared.Sender.{Sender}
 use Rattle.sender.specs.declared.Hearing.the-variants.{Done}
 use Rattle.sender.specs.Writing.{Written, written}
-use Rattle.receiver.specs.Receiving.{shown}
+use Rattle.receiver.specs.Receiving.{took, shown}
 use Rattle.reading.specs.Reading.{Reading, Idle, Read, reads}
 
 -- a message of 1 to limit bytes
@@ -52,6 +53,17 @@ pub record Free (m : List ℕ) (number : ℕ) (h : Reading) : Type 0 where
   pub small : number < 16
   pub roomy : length m ≤ length (h .buffer)
 
+-- a first frame with flags put into the high nibble of its length bytes
+abbrev pub flaggedFrame : (flags : ℕ) → List ℕ → List ℕ
+flaggedFrame flags [] = []
+flaggedFrame flags (head ∷ []) = head ∷ []
+flaggedFrame flags (head ∷ high ∷ s) = head ∷ (16 * flags + high) ∷ s
+
+-- the frames of a message as a control unit sends it with flags (02, 1): they stand "on the unit's first frame"
+abbrev pub flagged : (flags : ℕ) → List (List ℕ) → List (List ℕ)
+flagged flags [] = []
+flagged flags (s ∷ rest) = flaggedFrame flags s ∷ rest
+
 pub record Demand2 (limit : ℕ) : Type 0 where
   -- a telegram is of a kind exactly if it has the bytes of that kind, data by its first byte and length, a break by its one byte; all else is badly formed
   pub sorts : (s : List ℕ) (t : Telegram) → sorted s .kind ≡ t ↔ Taken (Form s) Malformed t
@@ -59,6 +71,8 @@ pub record Demand2 (limit : ℕ) : Type 0 where
   pub requests : (s : List ℕ) → Bytes s → (q : Request) → requestRead s ≡ q ↔ Taken (RequestForm s) NoRequest q
   -- and with its replies, read by the end that asked
   pub replies : (receive : ℕ) (s : List ℕ) → Bytes s → (q : Reply) → replyRead s receive ≡ q ↔ Taken (ReplyForm receive s) NoReply q
+  -- the two length bytes of a first frame are those of the flags and the length that they are read as, and of no others (02, 1)
+  pub declares : (s : List ℕ) → Bytes s → 3 ≤ length s → (m : Message) → declaredOf (getD s 1 0) (getD s 2 0) ≡ m ↔ Declares s m
   -- the bytes of each telegram that is written
   pub writes : Writes
   -- the bytes of C0, D0 and D6 to D8
@@ -103,13 +117,18 @@ pub record Demand2 (limit : ℕ) : Type 0 where
   pub cut : (m : List ℕ) (block first : ℕ) → Sendable limit m → CutInBytes m block first
   -- a message sent is handed over as its cutting
   pub sent : (t : Terms) (s : Sender) (m : List ℕ) → Sendable limit m → Ready t s → Sent t s m (written limit t s m)
-  -- the cutting, read back by any receiver that is free for it, is the message
-  pub readBack : (m : List ℕ) (block number : ℕ) (h : Reading) → Sendable limit m → Free m number h → Read m number (h .buffer) (reads limit h (cutting m block number))
-  -- so what a message's sending puts out shows the message, byte for byte, where it is read
+  -- the cutting, read back by any receiver that is free for it, is the message, with flags 0
+  pub readBack : (m : List ℕ) (block number : ℕ) (h : Reading) → Sendable limit m → Free m number h → Read m 0 number (h .buffer) (reads limit h (cutting m block number))
+  -- with flags in its first frame it is the message with these flags (02, 1)
+  pub flaggedBack :
+      (m : List ℕ) (flags block number : ℕ) (h : Reading) → flags < 16 → Sendable limit m → Free m number h →
+      Read m flags number (h .buffer) (reads limit h (flagged flags (cutting m block number)))
+  -- so what a message's sending puts out shows the message, byte for byte, where it is read, and a take reports flags 0 with it
   pub arrives :
       (t : Terms) (s : Sender) (m : List ℕ) (h : Reading) → Sendable limit m → Ready t s → Free m (s .oldest) h →
-      shown (reads limit h (written limit t s m .frames) .receiver) (reads limit h (written limit t s m .frames) .buffer) ≡ m
+      (let r = reads limit h (written limit t s m .frames) in
+      (shown (r .receiver) (r .buffer) ≡ m) × (took (r .receiver) (length (r .buffer)) .message ≡ record { length = length m; flags = 0 }))
 
--- for every limit that two length bytes can tell, 1,024 among them
+-- for every limit that twelve bits can tell, 1,024 among them
 abbrev pub Demand2Holds : Type 0
-Demand2Holds = (limit : ℕ) → limit < 65536 → Demand2 limit
+Demand2Holds = (limit : ℕ) → limit ≤ 4095 → Demand2 limit

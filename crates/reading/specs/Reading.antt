@@ -5,13 +5,13 @@ use mathlib.Core.Path.{_≡_}
 use mathlib.Core.List.{List, [], _∷_, _++_}
 use lib.ListN.{length, drop}
 use Rattle.telegram.specs.Kinds.{sorted}
-use Rattle.telegram.specs.Cutting.{framesOf}
+use Rattle.telegram.specs.Cutting.{none, framesOf}
 use Rattle.telegram.specs.declared.kinds.Telegram.{Telegram}
 use Rattle.receiver.specs.declared.Receiver.{Receiver}
 use Rattle.receiver.specs.declared.Received.{Received}
 use Rattle.receiver.specs.declared.Receipt.{Receipt}
 use Rattle.receiver.specs.declared.Receipt.the-variants.{Complete}
-use Rattle.receiver.specs.Receiving.{none, received, buffered}
+use Rattle.receiver.specs.Receiving.{received, buffered}
 
 -- a receiver, the buffer that is lent to it, and what became of the last telegram
 pub record Reading : Type 0 where
@@ -36,13 +36,13 @@ reads limit h (s ∷ rest) = reads limit (arrives limit h (sorted s .kind) (drop
 pub record Idle (number : ℕ) (r : Receiver) : Type 0 where
   pub expected : r .at .expected ≡ number
   pub discarding : r .at .discarding ≡ false
-  pub begun : r .at .begun ≡ none
-  pub complete : r .complete ≡ none
+  pub begun : r .at .begun .length ≡ 0
+  pub complete : r .complete .length ≡ 0
 
--- a message was read whole, from a number and into a buffer
-pub record Read (m : List ℕ) (number : ℕ) (b : List ℕ) (h : Reading) : Type 0 where
+-- a message was read whole, with its flags, from a number and into a buffer
+pub record Read (m : List ℕ) (flags number : ℕ) (b : List ℕ) (h : Reading) : Type 0 where
   pub note : h .note ≡ Complete
-  pub complete : h .receiver .complete ≡ record { length = length m }
+  pub complete : h .receiver .complete ≡ record { length = length m; flags = flags }
   pub expected : h .receiver .at .expected ≡ (number + framesOf (length m)) % 16
   pub discarding : h .receiver .at .discarding ≡ false
   pub begun : h .receiver .at .begun ≡ none

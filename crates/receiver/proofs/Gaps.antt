@@ -6,7 +6,8 @@ use mathlib.Core.Path.{_≡_, refl, _∙_}
 use mathlib.Core.List.{List, [], _∷_}
 use lib.Dec.{ltb, eqb}
 use borrow.Author.Tests.{lt-ltb, ne-eqb}
-use Rattle.receiver.specs.Receiving.{none, idle, noAck, waiting, following, kept, filled, onFirst, onData, isUsed}
+use Rattle.telegram.specs.Cutting.{none}
+use Rattle.receiver.specs.Receiving.{idle, noAck, waiting, following, kept, filled, onFirst, onData, isUsed}
 use Rattle.receiver.specs.declared.Receiver.{Receiver}
 use Rattle.receiver.specs.declared.Receipt.the-variants.{Complete, OutOfPlace}
 use Rattle.receiver.specs.declared.Received.{Received}

@@ -13,7 +13,7 @@ use borrow.Author.Tests.{ltb-true, ltb-false, eqb-true, eqb-false, lt-ltb, le-lt
 use Rattle.laws.specs.If.{if_then_else_}
 use Rattle.laws.proofs.Cases.{each}
 use Rattle.receiver.specs.Receiving.{fresh, first, filled, onFirst, onLater, onData}
-use Rattle.receiver.specs.declared.Message.{Message}
+use Rattle.telegram.specs.declared.cutting.Message.{Message}
 use Rattle.receiver.specs.declared.Receiver.{Receiver}
 use Rattle.receiver.specs.declared.Cause.{Cause}
 use Rattle.receiver.specs.declared.Cause.the-variants.{TooShort, BadLength, TooMany, NoEnd, EarlyEnd}
@@ -21,7 +21,7 @@ use Rattle.receiver.specs.declared.Receipt.{Receipt}
 use Rattle.receiver.specs.declared.Receipt.the-variants.{Used, Complete, ThrownAway, OutOfPlace, Untaken, ShortFirst, ShortLater, Broken}
 use Rattle.receiver.specs.declared.Received.{Received}
 use Rattle.receiver.proofs.Outcomes.{Brings, at-first, at-later, EndsThere, Breaks, too-short, declares-none, over-limit, too-many, no-end, early-end, breaks, short-first, short-later, goes-on, ends, InOrder, Outcome, out-of-place, untaken, thrown-away, in-order, outcome}
-use Rattle.receiver.proofs.Rules.{declares, isNumbered, waiting-some, waiting-none, first-begun}
+use Rattle.receiver.proofs.Rules.{declares, flagsIn, isNumbered, waiting-some, waiting-none, first-begun}
 
 -- a frame with the expected number, while no message waits and none is thrown away
 pub record InPlace (r : Receiver) (number : ℕ) : Type 0 where
@@ -192,7 +192,7 @@ module _ (limit : ℕ) (r : Receiver) (asks last : Bool) (number : ℕ) (p : Lis
   first-answers : First r number → answer ≡ onFirst limit r asks last p room
   first-answers f = place-answers (f .in-place) ∙ rw (f .none-begun)
 
-  begins-answers : Begins limit r number p → answer ≡ filled r asks last (record { length = declares p }) (length p - 2) room
+  begins-answers : Begins limit r number p → answer ≡ filled r asks last (record { length = declares p; flags = flagsIn p }) (length p - 2) room
   unfolding onFirst
   begins-answers b = first-answers (b .is-first) ∙ rw (le-ltb (length p) 2 (b .two), ne-eqb (declares p) 0 (λ z. omega arith), le-ltb limit (declares p) (b .most))
 
@@ -200,7 +200,7 @@ module _ (limit : ℕ) (r : Receiver) (asks last : Bool) (number : ℕ) (p : Lis
   unfolding onLater
   goes-answers g = place-answers (g .in-place) ∙ rw (first-begun r (g .begun), le-ltb room (r .at .begun .length) (g .fits))
 
-  begins-noted : {n : Receipt} → Begins limit r number p → (filled r asks last (record { length = declares p }) (length p - 2) room) .note ≡ n → answer .note ≡ n
+  begins-noted : {n : Receipt} → Begins limit r number p → (filled r asks last (record { length = declares p; flags = flagsIn p }) (length p - 2) room) .note ≡ n → answer .note ≡ n
   begins-noted b e = ap (λ (x : Received). x .note) (begins-answers b) ∙ e
 
   goes-noted : {n : Receipt} → GoesOn r number room → (filled r asks last (r .at .begun) (r .at .fill + length p) room) .note ≡ n → answer .note ≡ n

@@ -9,17 +9,16 @@ use Rattle.laws.specs.If.{if_then_else_}
 use Rattle.laws.proofs.Cases.{either}
 use Rattle.telegram.specs.declared.kinds.Telegram.{Telegram}
 use Rattle.telegram.specs.declared.kinds.Telegram.the-variants.{Data, Ack, Test, Break, Disconnect, Setup, Accept, Malformed}
+use Rattle.telegram.specs.Cutting.{none}
 use Rattle.receiver.specs.Receiving.{first, waiting, following, ackAfter, settled, kept, numbered, onData, received, pasted, copied, isUsed, buffered, returned, took}
-use Rattle.receiver.specs.declared.Message.{Message}
+use Rattle.telegram.specs.declared.cutting.Message.{Message}
 use Rattle.receiver.specs.declared.Standing.{Standing}
 use Rattle.receiver.specs.declared.Receiver.{Receiver}
 use Rattle.receiver.specs.declared.Receipt.{Receipt}
 use Rattle.receiver.specs.declared.Receipt.the-variants.{ShortLater, NoData}
 use Rattle.receiver.specs.declared.Received.{Received}
-use Rattle.receiver.specs.declared.Taking.{Taking}
-use Rattle.receiver.specs.declared.Taking.the-variants.{Shown, NoneComplete, ShortBuffer}
-use Rattle.receiver.specs.declared.Took.{Took}
-use Rattle.receiver.proofs.Outcomes.{Brings, at-first, at-later, breaks, short-first, short-later, goes-on, ends, Outcome, out-of-place, untaken, thrown-away, in-order, outcome, TakeOutcome, none-complete, short-buffer, shows, take-outcome}
+use Rattle.receiver.specs.declared.Taking.the-variants.{NoneComplete}
+use Rattle.receiver.proofs.Outcomes.{Brings, at-first, at-later, breaks, short-first, short-later, goes-on, ends, Outcome, out-of-place, untaken, thrown-away, in-order, outcome}
 
 -- ---- what a frame leaves
 
@@ -219,29 +218,7 @@ buffered-length limit r t p b =
 pub returned-leaves : (r : Receiver) → (returned r .complete ≡ r .complete) × (returned r .ack ≡ r .ack)
 returned-leaves r = (refl, refl)
 
--- what each answer to a take says of the receiver that it came to, and leaves: a message that is shown fits and waits no more, and a refusal changes nothing
-abbrev pub Takes : (r : Receiver) (room : ℕ) → Taking → Receiver → Type 0
-Takes r room Shown x = (r .complete .length ≤ room) × (waiting x ≡ false)
-Takes r room NoneComplete x = (waiting r ≡ false) × (x ≡ r)
-Takes r room ShortBuffer x = (room < r .complete .length) × (x ≡ r)
-
--- a take, by its answer; and all but the complete message is as it was
-pub record TakeLeaves (r : Receiver) (room : ℕ) (x : Took) : Type 0 where
-  pub takes : Takes r room (x .note) (x .receiver)
-  pub at : x .receiver .at ≡ r .at
-  pub back : x .receiver .back ≡ r .back
-  pub ack : x .receiver .ack ≡ r .ack
-
--- a take leaves all but the complete message
-pub took-leaves : (r : Receiver) (room : ℕ) → TakeLeaves r room (took r room)
-took-leaves r room = go (take-outcome r room)
-  where
-    go : {x : Took} → TakeOutcome r room x → TakeLeaves r room x
-    go (none-complete w) = record { takes = (w, refl); at = refl; back = refl; ack = refl }
-    go (short-buffer w short) = record { takes = (short, refl); at = refl; back = refl; ack = refl }
-    go (shows w fits) = record { takes = (fits, refl); at = refl; back = refl; ack = refl }
-
 -- with none complete, none is taken
-pub took-none : (r : Receiver) (room : ℕ) → waiting r ≡ false → took r room ≡ record { note = NoneComplete; receiver = r }
+pub took-none : (r : Receiver) (room : ℕ) → waiting r ≡ false → took r room ≡ record { note = NoneComplete; message = none; receiver = r }
 unfolding took
 took-none r room e = rw e

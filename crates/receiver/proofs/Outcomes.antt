@@ -15,10 +15,10 @@ use lib.Dec.{ltb, eqb}
 use borrow.Author.Tests.{eqb-false, eqb-true, ltb-false, ltb-true, eq-eqb, ne-eqb, le-ltb, not-true}
 use Rattle.laws.specs.If.{if_then_else_}
 use Rattle.laws.proofs.Cases.{by, by-not, by-lt, by-eq, both}
-use Rattle.telegram.specs.Cutting.{declaredOf}
-use Rattle.receiver.specs.Receiving.{none, first, waiting, kept, discarded, used, completed, filled, onFirst, onLater, onData, took}
+use Rattle.telegram.specs.Cutting.{none, declaredOf}
+use Rattle.receiver.specs.Receiving.{first, waiting, kept, discarded, used, completed, filled, onFirst, onLater, onData, took}
 use Rattle.receiver.specs.Inside.{inOrder}
-use Rattle.receiver.specs.declared.Message.{Message}
+use Rattle.telegram.specs.declared.cutting.Message.{Message}
 use Rattle.receiver.specs.declared.Receiver.{Receiver}
 use Rattle.receiver.specs.declared.Cause.{Cause}
 use Rattle.receiver.specs.declared.Cause.the-variants.{TooShort, BadLength, TooMany, NoEnd, EarlyEnd}
@@ -29,13 +29,13 @@ use Rattle.receiver.specs.declared.Took.{Took}
 
 -- ---- a first or a later frame
 
--- the length that a first frame declares
-abbrev pub declaredBy : List ℕ → ℕ
+-- the message that a first frame declares
+abbrev pub declaredBy : List ℕ → Message
 declaredBy p = declaredOf (getD p 0 0) (getD p 1 0)
 
 -- the message that a frame belongs to, and to how many bytes it brings it: one begun with a right length, or one that the buffer can hold
 pub data Brings (limit : ℕ) (r : Receiver) (p : List ℕ) (room : ℕ) : Message → ℕ → Type 0 where
-  at-first : first r ≡ true → 2 ≤ length p → 1 ≤ declaredBy p → declaredBy p ≤ limit → Brings limit r p room (record { length = declaredBy p }) (length p - 2)
+  at-first : first r ≡ true → 2 ≤ length p → 1 ≤ declaredBy p .length → declaredBy p .length ≤ limit → Brings limit r p room (declaredBy p) (length p - 2)
   at-later : first r ≡ false → r .at .begun .length ≤ room → Brings limit r p room (r .at .begun) (r .at .fill + length p)
 
 -- EOM stands where the bytes reach the declared length, and only there
@@ -46,8 +46,8 @@ EndsThere false fill n = fill < n
 -- a frame that breaks its message
 pub data Breaks (limit : ℕ) (r : Receiver) (last : Bool) (p : List ℕ) (room : ℕ) : Cause → Type 0 where
   too-short : first r ≡ true → length p < 2 → Breaks limit r last p room TooShort
-  declares-none : first r ≡ true → 2 ≤ length p → declaredBy p ≡ 0 → Breaks limit r last p room BadLength
-  over-limit : first r ≡ true → 2 ≤ length p → 1 ≤ declaredBy p → limit < declaredBy p → Breaks limit r last p room BadLength
+  declares-none : first r ≡ true → 2 ≤ length p → declaredBy p .length ≡ 0 → Breaks limit r last p room BadLength
+  over-limit : first r ≡ true → 2 ≤ length p → 1 ≤ declaredBy p .length → limit < declaredBy p .length → Breaks limit r last p room BadLength
   too-many : {m : Message} {fill : ℕ} → Brings limit r p room m fill → m .length < fill → Breaks limit r last p room TooMany
   no-end : {m : Message} {fill : ℕ} → Brings limit r p room m fill → last ≡ false → fill ≡ m .length → Breaks limit r last p room NoEnd
   early-end : {m : Message} {fill : ℕ} → Brings limit r p room m fill → last ≡ true → fill < m .length → Breaks limit r last p room EarlyEnd
@@ -87,8 +87,8 @@ module _ (limit : ℕ) (r : Receiver) (asks last : Bool) (p : List ℕ) (room : 
       by Here (first r)
       (λ f.
       by-lt Here (length p) 2 (λ short. breaks (too-short f short)) (λ two.
-      by-eq Here (declaredBy p) 0 (λ z. breaks (declares-none f two z)) (λ some.
-      by-lt Here limit (declaredBy p) (λ over. breaks (over-limit f two (omega arith) over)) (λ most.
+      by-eq Here (declaredBy p .length) 0 (λ z. breaks (declares-none f two z)) (λ some.
+      by-lt Here limit (declaredBy p .length) (λ over. breaks (over-limit f two (omega arith) over)) (λ most.
       filled-judged (at-first f two (omega arith) most)))))
       (λ f. by-lt Here room (r .at .begun .length) (λ short. short-later f short) (λ roomy. filled-judged (at-later f roomy)))
 
@@ -128,7 +128,7 @@ module _ (limit : ℕ) (r : Receiver) (asks last : Bool) (number : ℕ) (p : Lis
   -- that is by the bytes that it brings its message to
   brings-filled : {m : Message} {fill : ℕ} → Brings limit r p room m fill → inOrder limit r asks last p room ≡ filled r asks last m fill room
   unfolding onFirst onLater
-  brings-filled (at-first f two some most) = rw (f, le-ltb (length p) 2 two, ne-eqb (declaredBy p) 0 (λ z. omega arith), le-ltb limit (declaredBy p) most)
+  brings-filled (at-first f two some most) = rw (f, le-ltb (length p) 2 two, ne-eqb (declaredBy p .length) 0 (λ z. omega arith), le-ltb limit (declaredBy p .length) most)
   brings-filled (at-later f held) = rw (f, le-ltb room (r .at .begun .length) held)
 
   -- how a frame that fits its message leaves it
@@ -148,10 +148,10 @@ module _ (limit : ℕ) (r : Receiver) (asks last : Bool) (number : ℕ) (p : Lis
 -- ---- a take
 
 pub data TakeOutcome (r : Receiver) (room : ℕ) : Took → Type 0 where
-  none-complete : waiting r ≡ false → TakeOutcome r room (record { note = NoneComplete; receiver = r })
-  short-buffer : waiting r ≡ true → room < r .complete .length → TakeOutcome r room (record { note = ShortBuffer; receiver = r })
+  none-complete : waiting r ≡ false → TakeOutcome r room (record { note = NoneComplete; message = none; receiver = r })
+  short-buffer : waiting r ≡ true → room < r .complete .length → TakeOutcome r room (record { note = ShortBuffer; message = none; receiver = r })
   shows : waiting r ≡ true → r .complete .length ≤ room
-      → TakeOutcome r room (record { note = Shown; receiver = record { at = r .at; back = r .back; complete = none; ack = r .ack } })
+      → TakeOutcome r room (record { note = Shown; message = r .complete; receiver = record { at = r .at; back = r .back; complete = none; ack = r .ack } })
 
 pub take-outcome : (r : Receiver) (room : ℕ) → TakeOutcome r room (took r room)
 unfolding took

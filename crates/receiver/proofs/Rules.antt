@@ -5,7 +5,7 @@
 --     ack-asked, ack-unasked                        the Ack after a frame
 --     Back, data-back                               the place that a break returns to, after a frame
 --     inside-leaves                                 a frame with neither AR nor EOM leaves it, the complete message and the Ack
-use Prim.Native.Nat.{ℕ, zero, suc, _+_, _*_, _-_, _%_, _<_, _≤_}
+use Prim.Native.Nat.{ℕ, zero, suc, _+_, _*_, _-_, _/_, _%_, _<_, _≤_}
 use native.Mathlib.Omega.{arith}
 use mathlib.Core.Bool.{Bool, true, false, not, _&&_, _||_, false≢true}
 use mathlib.Core.Path.{_≡_, refl, _∙_}
@@ -15,7 +15,7 @@ use lib.Dec.{ltb, eqb}
 use borrow.Author.Tests.{lt-ltb, le-ltb, ne-eqb}
 use Rattle.laws.specs.If.{if_then_else_}
 use Rattle.receiver.specs.Receiving.{fresh, first, waiting, following, settled, numbered, kept, discarded, used, completed, onData, returned, ackHanded, took}
-use Rattle.receiver.specs.declared.Message.{Message}
+use Rattle.telegram.specs.declared.cutting.Message.{Message}
 use Rattle.receiver.specs.declared.Receiver.{Receiver}
 use Rattle.receiver.specs.declared.Receipt.{Receipt}
 use Rattle.receiver.specs.declared.Receipt.the-variants.{Used, Complete, ThrownAway, OutOfPlace, Untaken, ShortFirst, ShortLater, Broken, NoData}
@@ -30,9 +30,9 @@ use Rattle.receiver.proofs.Outcomes.{Brings, at-first, at-later, breaks
 -- "After the A1 all numbers start at 0, and no message received .. due frame .. remains from before it"
 pub fresh-is : fresh
     ≡ record {
-      at = record { expected = 0; discarding = false; begun = record { length = 0 }; fill = 0 };
-      back = record { expected = 0; discarding = false; begun = record { length = 0 }; fill = 0 };
-      complete = record { length = 0 };
+      at = record { expected = 0; discarding = false; begun = record { length = 0; flags = 0 }; fill = 0 };
+      back = record { expected = 0; discarding = false; begun = record { length = 0; flags = 0 }; fill = 0 };
+      complete = record { length = 0; flags = 0 };
       ack = record { due = false; ready = false; number = 0 };
     }
 fresh-is = refl
@@ -61,19 +61,19 @@ module _ (r : Receiver) where
   first-begun h = ne-eqb (r .at .begun .length) 0 (λ e. omega arith)
 
   module _ (room : ℕ) where
-    -- a take shows a complete message that the lent buffer can hold; it is taken, and nothing else changes
+    -- a take shows a complete message that the lent buffer can hold, with its length and flags; it is taken, and nothing else changes
     pub take-shown : 1 ≤ r .complete .length → r .complete .length ≤ room
-        → took r room ≡ record { note = Shown; receiver = record { at = r .at; back = r .back; complete = record { length = 0 }; ack = r .ack } }
+        → took r room ≡ record { note = Shown; message = r .complete; receiver = record { at = r .at; back = r .back; complete = record { length = 0; flags = 0 }; ack = r .ack } }
     unfolding took
     take-shown some fits = rw (waiting-some some, le-ltb room (r .complete .length) fits)
 
-    -- row 5, "take with none complete": nothing changes
-    pub take-none : r .complete .length ≡ 0 → took r room ≡ record { note = NoneComplete; receiver = r }
+    -- row 5, "take with none complete": nothing changes, and flags 0 are reported
+    pub take-none : r .complete .length ≡ 0 → took r room ≡ record { note = NoneComplete; message = record { length = 0; flags = 0 }; receiver = r }
     unfolding took
     take-none e = rw (waiting-none e)
 
-    -- row 7, "at .. take, lent buffer shorter than the declared length": nothing changes
-    pub take-short : room < r .complete .length → took r room ≡ record { note = ShortBuffer; receiver = r }
+    -- row 7, "at .. take, lent buffer shorter than the declared length": nothing changes, and flags 0 are reported
+    pub take-short : room < r .complete .length → took r room ≡ record { note = ShortBuffer; message = record { length = 0; flags = 0 }; receiver = r }
     unfolding took
     take-short short = rw (waiting-some (omega arith), lt-ltb room (r .complete .length) short)
 
@@ -85,13 +85,20 @@ numbers-follow = refl
 
 -- ---- what a frame leaves
 
--- the length that a first frame declares, high byte first
+-- the length that a first frame declares, high byte first: the low nibble of that one, and the other byte
 abbrev pub declares : List ℕ → ℕ
-declares p = 256 * getD p 0 0 + getD p 1 0
+declares p = 256 * (getD p 0 0 % 16) + getD p 1 0
 
--- the length of a used frame's message, and how many bytes of it are then there
+-- its flags: the high nibble
+abbrev pub flagsIn : List ℕ → ℕ
+flagsIn p = getD p 0 0 / 16
+
+-- the length and the flags of a used frame's message, and how many bytes of it are then there
 abbrev pub lengthOf : Receiver → List ℕ → ℕ
 lengthOf r p = if eqb (r .at .begun .length) 0 then declares p else r .at .begun .length
+
+abbrev pub flagsOf : Receiver → List ℕ → ℕ
+flagsOf r p = if eqb (r .at .begun .length) 0 then flagsIn p else r .at .begun .flags
 
 abbrev pub fillOf : Receiver → List ℕ → ℕ
 fillOf r p = if eqb (r .at .begun .length) 0 then length p - 2 else r .at .fill + length p
@@ -100,9 +107,9 @@ fillOf r p = if eqb (r .at .begun .length) 0 then length p - 2 else r .at .fill 
 abbrev pub ThrownOff : (r : Receiver) (asks last : Bool) → Receiver → Type 0
 ThrownOff r asks last x = x
     ≡ record {
-      at = record { expected = (r .at .expected + 1) % 16; discarding = not last; begun = record { length = 0 }; fill = 0 };
+      at = record { expected = (r .at .expected + 1) % 16; discarding = not last; begun = record { length = 0; flags = 0 }; fill = 0 };
       back =
-          if asks || last then record { expected = (r .at .expected + 1) % 16; discarding = not last; begun = record { length = 0 }; fill = 0 }
+          if asks || last then record { expected = (r .at .expected + 1) % 16; discarding = not last; begun = record { length = 0; flags = 0 }; fill = 0 }
           else r .back;
       complete = r .complete;
       ack = if asks then record { due = true; ready = true; number = (r .at .expected + 1) % 16 } else r .ack;
@@ -135,17 +142,17 @@ Left r asks last p ShortLater x = x ≡ r
 -- a used frame: its message is begun, and has the frame's bytes too
 Left r asks last p Used x = x
     ≡ record {
-      at = record { expected = (r .at .expected + 1) % 16; discarding = false; begun = record { length = lengthOf r p }; fill = fillOf r p };
-      back = if asks then record { expected = (r .at .expected + 1) % 16; discarding = false; begun = record { length = lengthOf r p }; fill = fillOf r p } else r .back;
+      at = record { expected = (r .at .expected + 1) % 16; discarding = false; begun = record { length = lengthOf r p; flags = flagsOf r p }; fill = fillOf r p };
+      back = if asks then record { expected = (r .at .expected + 1) % 16; discarding = false; begun = record { length = lengthOf r p; flags = flagsOf r p }; fill = fillOf r p } else r .back;
       complete = r .complete;
       ack = if asks then record { due = true; ready = true; number = (r .at .expected + 1) % 16 } else r .ack;
     }
 -- one that completes it: the message waits, nothing is begun, and a break returns to here
 Left r asks last p Complete x = x
     ≡ record {
-      at = record { expected = (r .at .expected + 1) % 16; discarding = false; begun = record { length = 0 }; fill = 0 };
-      back = record { expected = (r .at .expected + 1) % 16; discarding = false; begun = record { length = 0 }; fill = 0 };
-      complete = record { length = lengthOf r p };
+      at = record { expected = (r .at .expected + 1) % 16; discarding = false; begun = record { length = 0; flags = 0 }; fill = 0 };
+      back = record { expected = (r .at .expected + 1) % 16; discarding = false; begun = record { length = 0; flags = 0 }; fill = 0 };
+      complete = record { length = lengthOf r p; flags = flagsOf r p };
       ack = if asks then record { due = true; ready = true; number = (r .at .expected + 1) % 16 } else r .ack;
     }
 -- no data: nothing changes
@@ -167,20 +174,20 @@ unfolding numbered settled
 thrown-left r true last w = rw w
 thrown-left r false last w = refl
 
-used-left : (r : Receiver) (asks last : Bool) (p : List ℕ) {m : Message} {fill : ℕ} → waiting r ≡ false → m ≡ record { length = lengthOf r p } → fill ≡ fillOf r p
+used-left : (r : Receiver) (asks last : Bool) (p : List ℕ) {m : Message} {fill : ℕ} → waiting r ≡ false → m ≡ record { length = lengthOf r p; flags = flagsOf r p } → fill ≡ fillOf r p
     → Left r asks last p Used (used r asks m fill)
 unfolding numbered settled
 used-left r true last p w em ef = rw (em, ef, w)
 used-left r false last p w em ef = rw (em, ef)
 
-completed-left : (r : Receiver) (asks last : Bool) (p : List ℕ) {m : Message} → waiting r ≡ false → m ≡ record { length = lengthOf r p }
+completed-left : (r : Receiver) (asks last : Bool) (p : List ℕ) {m : Message} → waiting r ≡ false → m ≡ record { length = lengthOf r p; flags = flagsOf r p }
     → Left r asks last p Complete (completed r asks m)
 unfolding numbered settled
 completed-left r true last p w em = rw (em, w)
 completed-left r false last p w em = rw em
 
 brings-length : {limit : ℕ} {r : Receiver} {p : List ℕ} {room : ℕ} {m : Message} {fill : ℕ} → Brings limit r p room m fill
-    → (m ≡ record { length = lengthOf r p }) × (fill ≡ fillOf r p)
+    → (m ≡ record { length = lengthOf r p; flags = flagsOf r p }) × (fill ≡ fillOf r p)
 brings-length (at-first f two some most) = rw f (refl, refl)
 brings-length (at-later f held) = rw f (refl, refl)
 

@@ -13,7 +13,7 @@ use Rattle.laws.proofs.Cases.{either}
 use Rattle.telegram.specs.Cutting.{declaredOf}
 use Rattle.receiver.specs.Receiving.{fresh, first, filled, onFirst, onLater}
 use Rattle.receiver.specs.Inside.{inOrder, broughtBy, receiverAfter}
-use Rattle.receiver.specs.declared.Message.{Message}
+use Rattle.telegram.specs.declared.cutting.Message.{Message}
 use Rattle.receiver.specs.declared.Brought.{Brought}
 use Rattle.receiver.specs.declared.Receiver.{Receiver}
 use Rattle.receiver.specs.declared.Cause.the-variants.{TooShort, BadLength, TooMany, NoEnd, EarlyEnd}
@@ -44,14 +44,14 @@ filled-note r asks last m fill room = filled-notes r asks last m fill room ∙ s
 
 module _ (limit : ℕ) (r : Receiver) (asks last : Bool) (p : List ℕ) (room : ℕ) where
   abbrev declared : ℕ
-  declared = declaredOf (getD p 0 0) (getD p 1 0)
+  declared = declaredOf (getD p 0 0) (getD p 1 0) .length
 
   -- what becomes of a frame that is in order
   pub order-notes : (b : Brought) → b ≡ broughtBy r p → (inOrder limit r asks last p room) .note
       ≡ (if first r && ltb (length p) 2 then Broken TooShort
-      else if first r && (eqb (b .length) 0 || ltb limit (b .length)) then Broken BadLength
-      else if not (first r) && ltb room (b .length) then ShortLater
-      else (filled fresh false last (record { length = b .length }) (b .fill) room) .note)
+      else if first r && (eqb (b .message .length) 0 || ltb limit (b .message .length)) then Broken BadLength
+      else if not (first r) && ltb room (b .message .length) then ShortLater
+      else (filled fresh false last (b .message) (b .fill) room) .note)
   unfolding onFirst onLater broughtBy
   order-notes b e =
       rw e
@@ -68,7 +68,7 @@ note-alike limit r asks last p room = order-notes limit r asks last p room _ ref
 
 -- what is left, by what became of the frame
 module _ (limit : ℕ) (r : Receiver) (asks last : Bool) (p : List ℕ) (room : ℕ) where
-  brings-brought : {m : Message} {fill : ℕ} → Brings limit r p room m fill → broughtBy r p ≡ record { length = m .length; fill = fill }
+  brings-brought : {m : Message} {fill : ℕ} → Brings limit r p room m fill → broughtBy r p ≡ record { message = m; fill = fill }
   unfolding broughtBy
   brings-brought (at-first f two some most) = rw (f, le-ltb (length p) 2 two)
   brings-brought (at-later f held) = rw f

@@ -14,11 +14,11 @@ use Rattle.receiver.specs.declared.Received.{Received}
 
 -- a number is expected, and fill bytes of a message of length bytes are there
 abbrev within : (expected length fill : ℕ) → Standing
-within expected length fill = record { expected = expected; discarding = false; begun = record { length = length }; fill = fill }
+within expected length fill = record { expected = expected; discarding = false; begun = record { length = length; flags = 0 }; fill = fill }
 
 -- all up to the next EOM is thrown away
 abbrev throwing : ℕ → Standing
-throwing expected = record { expected = expected; discarding = true; begun = record { length = 0 }; fill = 0 }
+throwing expected = record { expected = expected; discarding = true; begun = record { length = 0; flags = 0 }; fill = 0 }
 
 abbrev owed : ℕ → AckDue
 owed number = record { due = true; ready = true; number = number }
@@ -29,11 +29,11 @@ older = record { due = true; ready = false; number = 2 }
 
 -- what is answered, and a receiver: where it stands, where a break returns to, the length of a complete message, the Ack
 abbrev said : Receipt → (at back : Standing) → (complete : ℕ) → AckDue → Received
-said note at back complete ack = record { note = note; receiver = record { at = at; back = back; complete = record { length = complete }; ack = ack } }
+said note at back complete ack = record { note = note; receiver = record { at = at; back = back; complete = record { length = complete; flags = 0 }; ack = ack } }
 
 -- it expects 5, and a break returns to 2
 abbrev from5 : (at : Standing) → (complete : ℕ) → Receiver
-from5 at complete = record { at = at; back = within 2 0 0; complete = record { length = complete }; ack = older }
+from5 at complete = record { at = at; back = within 2 0 0; complete = record { length = complete; flags = 0 }; ack = older }
 
 -- frames that are not used, with AR: out of place, while one waits, while a message is thrown away, the buffer too short on a later frame
 pub unused-worked : onData 1024 (from5 (within 5 9 3) 0) true true 6 (7 ∷ []) 9 ∷ onData 1024 (from5 (within 5 0 0) 4) true true 5 (7 ∷ []) 9

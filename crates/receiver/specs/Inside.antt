@@ -5,7 +5,7 @@ use mathlib.Core.List.{List}
 use lib.ListN.{length, getD}
 use lib.Dec.{ltb}
 use Rattle.laws.specs.If.{if_then_else_}
-use Rattle.telegram.specs.Cutting.{declaredOf}
+use Rattle.telegram.specs.Cutting.{none, declaredOf}
 use Rattle.receiver.specs.Receiving.{first, discarded, used, completed, onFirst, onLater}
 use Rattle.receiver.specs.declared.Brought.{Brought}
 use Rattle.receiver.specs.declared.Receiver.{Receiver}
@@ -20,14 +20,14 @@ inOrder limit r asks last p room = if first r then onFirst limit r asks last p r
 -- what a frame with the bytes p behind its first one brings to the message begun, or to the one that it begins
 unfoldable pub broughtBy : Receiver → (p : List ℕ) → Brought
 broughtBy r p =
-    if not (first r) then record { length = r .at .begun .length; fill = r .at .fill + length p }
-    else if ltb (length p) 2 then record { length = 0; fill = 0 }
-    else record { length = declaredOf (getD p 0 0) (getD p 1 0); fill = length p - 2 }
+    if not (first r) then record { message = r .at .begun; fill = r .at .fill + length p }
+    else if ltb (length p) 2 then record { message = none; fill = 0 }
+    else record { message = declaredOf (getD p 0 0) (getD p 1 0); fill = length p - 2 }
 
 -- the receiver after a first or a later frame, by what became of it; the other receipts are not theirs
 unfoldable pub receiverAfter : Receiver → Receipt → (asks last : Bool) → Brought → Receiver
-receiverAfter r Used asks last b = used r asks (record { length = b .length }) (b .fill % 65536)
-receiverAfter r Complete asks last b = completed r asks (record { length = b .length })
+receiverAfter r Used asks last b = used r asks (b .message) (b .fill % 65536)
+receiverAfter r Complete asks last b = completed r asks (b .message)
 receiverAfter r ThrownAway asks last b = r
 receiverAfter r (OutOfPlace e) asks last b = r
 receiverAfter r Untaken asks last b = r

@@ -5,10 +5,10 @@ use mathlib.Core.List.{List, _++_}
 use lib.ListN.{length, take, drop, getD}
 use lib.Dec.{ltb, leb, eqb}
 use Rattle.laws.specs.If.{if_then_else_}
-use Rattle.telegram.specs.Cutting.{declaredOf}
+use Rattle.telegram.specs.Cutting.{none, declaredOf}
 use Rattle.telegram.specs.declared.kinds.Telegram.{Telegram}
 use Rattle.telegram.specs.declared.kinds.Telegram.the-variants.{Data, Ack, Test, Break, Disconnect, Setup, Accept, Malformed}
-use Rattle.receiver.specs.declared.Message.{Message}
+use Rattle.telegram.specs.declared.cutting.Message.{Message}
 use Rattle.receiver.specs.declared.Standing.{Standing}
 use Rattle.receiver.specs.declared.AckDue.{AckDue}
 use Rattle.receiver.specs.declared.Receiver.{Receiver}
@@ -19,10 +19,6 @@ use Rattle.receiver.specs.declared.Receipt.the-variants.{Used, Complete,
 use Rattle.receiver.specs.declared.Received.{Received}
 use Rattle.receiver.specs.declared.Taking.the-variants.{Shown, NoneComplete, ShortBuffer}
 use Rattle.receiver.specs.declared.Took.{Took}
-
--- no message
-abbrev pub none : Message
-none = record { length = 0 }
 
 -- a number is expected, and nothing is begun
 abbrev pub idle : ℕ → Standing
@@ -92,9 +88,9 @@ filled r asks last m fill room =
 unfoldable pub onFirst : (limit : ℕ) → Receiver → (asks last : Bool) → (p : List ℕ) → (room : ℕ) → Received
 onFirst limit r asks last p room =
     if ltb (length p) 2 then record { note = Broken TooShort; receiver = discarded r asks last }
-    else if eqb (declaredOf (getD p 0 0) (getD p 1 0)) 0 then record { note = Broken BadLength; receiver = discarded r asks last }
-    else if ltb limit (declaredOf (getD p 0 0) (getD p 1 0)) then record { note = Broken BadLength; receiver = discarded r asks last }
-    else filled r asks last (record { length = declaredOf (getD p 0 0) (getD p 1 0) }) (length p - 2) room
+    else if eqb (declaredOf (getD p 0 0) (getD p 1 0) .length) 0 then record { note = Broken BadLength; receiver = discarded r asks last }
+    else if ltb limit (declaredOf (getD p 0 0) (getD p 1 0) .length) then record { note = Broken BadLength; receiver = discarded r asks last }
+    else filled r asks last (declaredOf (getD p 0 0) (getD p 1 0)) (length p - 2) room
 
 -- a later frame; row 7 comes first, and changes nothing
 unfoldable pub onLater : Receiver → (asks last : Bool) → (p : List ℕ) → (room : ℕ) → Received
@@ -162,13 +158,13 @@ returned r = record { at = r .back; back = r .back; complete = r .complete; ack 
 abbrev pub ackHanded : Receiver → Receiver
 ackHanded r = record { at = r .at; back = r .back; complete = r .complete; ack = noAck }
 
--- take: row 5 with none complete, row 7 where the lent buffer is shorter than the declared length; else the message is taken
+-- take: row 5 with none complete, row 7 where the lent buffer is shorter than the declared length; else the message is taken, and its length and flags are reported (02, 1)
 unfoldable pub took : Receiver → (room : ℕ) → Took
 took r room =
-    if not (waiting r) then record { note = NoneComplete; receiver = r }
-    else if ltb room (r .complete .length) then record { note = ShortBuffer; receiver = r }
-    else record { note = Shown; receiver = record { at = r .at; back = r .back; complete = none; ack = r .ack } }
+    if not (waiting r) then record { note = NoneComplete; message = none; receiver = r }
+    else if ltb room (r .complete .length) then record { note = ShortBuffer; message = none; receiver = r }
+    else record { note = Shown; message = r .complete; receiver = record { at = r .at; back = r .back; complete = none; ack = r .ack } }
 
--- the message that a take shows: the first part of the lent buffer
+-- the bytes of the message that a take shows: the first part of the lent buffer
 abbrev pub shown : Receiver → List ℕ → List ℕ
 shown r b = take (r .complete .length) b

@@ -11,14 +11,11 @@ ghost use mathlib.Core.Bool.{false};
 ghost use Rattle.receiver.specs.Inside.{inOrder, broughtBy, receiverAfter};
 ghost use Rattle.receiver.specs.Receiving.{fresh, waiting, following, settled, kept, numbered, discarded, filled, onData, received, pasted, isUsed, buffered, returned, ackHanded, took};
 use telegram::cutting::LONGEST;
-use telegram::cutting::declared_length;
+use telegram::cutting::Message;
+use telegram::cutting::NONE;
+use telegram::cutting::declared;
 use telegram::kinds::Sorted;
 use telegram::kinds::Telegram;
-
-// A message begun or complete: its declared length; 0 is none.
-pub struct Message {
-    pub length: u16,
-}
 
 // Where the receiver stands between two frames.
 pub struct Standing {
@@ -82,9 +79,9 @@ pub struct Received {
     pub receiver: Receiver,
 }
 
-// What a frame brings: the length of its message, and how many bytes of that are then there.
+// What a frame brings: its message, and how many bytes of that are then there.
 struct Brought {
-    length: u16,
+    message: Message,
     fill: usize,
 }
 
@@ -98,6 +95,8 @@ pub enum Taking {
 
 pub struct Took {
     pub note: Taking,
+    // The message shown; none with a refusal.
+    pub message: Message,
     pub receiver: Receiver,
 }
 
@@ -116,10 +115,11 @@ fn paste(payload: &[u8], buffer: &mut [u8], at: usize)
     bytes::copy(payload, &mut buffer[at..]);
 }
 
-// What becomes of a frame that brings a message of a length to fill bytes, in a buffer of room bytes.
-fn outcome(last: bool, length: usize, fill: usize, room: usize) -> Receipt
-    ensures { λ r. ⌜ r ≡ (filled fresh false last (record { length = length }) fill room) .note ⌝ }
+// What becomes of a frame that brings a message to fill bytes, in a buffer of room bytes.
+fn outcome(last: bool, message: Message, fill: usize, room: usize) -> Receipt
+    ensures { λ r. ⌜ r ≡ (filled fresh false last message fill room) .note ⌝ }
 {
+    let length = message.length as usize;
     if length < fill {
         return Receipt::Broken(Cause::TooMany);
     }
@@ -165,17 +165,16 @@ impl Receiver {
     pub fn fresh() -> Receiver
         ensures { λ r. ⌜ r ≡ fresh ⌝ }
     {
-        let none = Message { length: 0 };
         let idle = Standing {
             expected: 0,
             discarding: false,
-            begun: none,
+            begun: NONE,
             fill: 0,
         };
         Receiver {
             at: idle,
             back: idle,
-            complete: none,
+            complete: NONE,
             ack: AckDue {
                 due: false,
                 ready: false,
@@ -274,15 +273,18 @@ impl Receiver {
         let begun = at.begun;
         if begun.length != 0 {
             return Brought {
-                length: begun.length,
+                message: begun,
                 fill: at.fill as usize + payload.len(),
             };
         }
         if payload.len() < 2 {
-            return Brought { length: 0, fill: 0 };
+            return Brought {
+                message: NONE,
+                fill: 0,
+            };
         }
         Brought {
-            length: declared_length(payload[0], payload[1]),
+            message: declared(payload[0], payload[1]),
             fill: payload.len() - 2,
         }
     }
@@ -295,7 +297,8 @@ impl Receiver {
         let at = self.at;
         let begun = at.begun;
         let first = begun.length == 0;
-        let length = brought.length;
+        let message = brought.message;
+        let length = message.length;
         let size = payload.len();
         if first & (size < 2) {
             return Receipt::Broken(Cause::TooShort);
@@ -306,7 +309,7 @@ impl Receiver {
         if !first & (room < length as usize) {
             return Receipt::ShortLater;
         }
-        outcome(last, length as usize, brought.fill, room)
+        outcome(last, message, brought.fill, room)
     }
 
     // The receiver after a first or a later frame, by what became of it.
@@ -314,10 +317,7 @@ impl Receiver {
         ensures { λ r. ⌜ r ≡ receiverAfter self note asks last brought ⌝ }
     {
         let complete = self.complete;
-        let none = Message { length: 0 };
-        let m = Message {
-            length: brought.length,
-        };
+        let m = brought.message;
         match note {
             Receipt::Used => {
                 self.numbered(
@@ -329,7 +329,7 @@ impl Receiver {
                     complete,
                 )
             }
-            Receipt::Complete => self.numbered(asks, true, false, none, 0, m),
+            Receipt::Complete => self.numbered(asks, true, false, NONE, 0, m),
             Receipt::ThrownAway => self,
             Receipt::OutOfPlace(_) => self,
             Receipt::Untaken => self,
@@ -345,7 +345,7 @@ impl Receiver {
         ensures { λ r. ⌜ r ≡ discarded self asks last ⌝ }
     {
         let complete = self.complete;
-        self.numbered(asks, last, !last, Message { length: 0 }, 0, complete)
+        self.numbered(asks, last, !last, NONE, 0, complete)
     }
 
     // A frame that is numbered: the number behind it is expected.
@@ -431,22 +431,25 @@ impl Receiver {
     {
         let complete = self.complete;
         let length = complete.length;
+        let none = NONE;
         if !self.is_waiting() {
             return Took {
                 note: Taking::NoneComplete,
+                message: none,
                 receiver: self,
             };
         }
         if room < length as usize {
             return Took {
                 note: Taking::ShortBuffer,
+                message: none,
                 receiver: self,
             };
         }
-        let none = Message { length: 0 };
         self.complete = none;
         Took {
             note: Taking::Shown,
+            message: complete,
             receiver: self,
         }
     }

@@ -70,7 +70,7 @@ module _ (t : Terms) (s : Sender) (m : List ℕ) (ready : Ready s) (lent : lengt
       ≡ record {
         note = Frame;
         sender = record { length = s .length; acked = s .acked; high = max (s .high) (s .next + 1); next = s .next + 1; oldest = s .oldest; count = s .count; wait = 0; hold = s .hold; gap = t .t3 };
-        payload = payloadOf ((0x20 + number) ∷ take 7 (drop (7 * s .next) (length m / 256 % 256 ∷ length m % 256 ∷ m)));
+        payload = payloadOf ((0x20 + number) ∷ take 7 (drop (7 * s .next) (length m / 256 % 16 ∷ length m % 256 ∷ m)));
       }
   unfolding frameAt headerOf streamOf
   frame-middle inside more =
@@ -83,7 +83,7 @@ module _ (t : Terms) (s : Sender) (m : List ℕ) (ready : Ready s) (lent : lengt
       ≡ record {
         note = Frame;
         sender = record { length = s .length; acked = s .acked; high = max (s .high) (s .next + 1); next = s .next + 1; oldest = s .oldest; count = s .count; wait = t .t1; hold = s .hold; gap = t .t3 };
-        payload = payloadOf (number ∷ take 7 (drop (7 * s .next) (length m / 256 % 256 ∷ length m % 256 ∷ m)));
+        payload = payloadOf (number ∷ take 7 (drop (7 * s .next) (length m / 256 % 16 ∷ length m % 256 ∷ m)));
       }
   unfolding frameAt headerOf streamOf
   frame-block-end end more =
@@ -96,7 +96,7 @@ module _ (t : Terms) (s : Sender) (m : List ℕ) (ready : Ready s) (lent : lengt
       ≡ record {
         note = Frame;
         sender = record { length = s .length; acked = s .acked; high = max (s .high) (s .next + 1); next = s .next + 1; oldest = s .oldest; count = s .count; wait = t .t1; hold = s .hold; gap = t .t3 };
-        payload = payloadOf ((0x10 + number) ∷ take 7 (drop (7 * s .next) (length m / 256 % 256 ∷ length m % 256 ∷ m)));
+        payload = payloadOf ((0x10 + number) ∷ take 7 (drop (7 * s .next) (length m / 256 % 16 ∷ length m % 256 ∷ m)));
       }
   unfolding frameAt headerOf streamOf
   frame-last all =

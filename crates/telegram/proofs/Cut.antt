@@ -101,8 +101,8 @@ cutting-at m block first k h =
 pub cutting-joined : (m : List ℕ) (block first : ℕ) → flatten (map (drop 1) (cutting m block first)) ≡ streamOf m
 cutting-joined m block first = rw headed-joined (sevens-joined (streamOf m))
 
--- a message of 1 to limit bytes, for any limit that two length bytes can tell, is cut as published, whatever its block size and first number
-pub published : (limit : ℕ) → limit ≤ 65535 → (m : List ℕ) (block first : ℕ) → 0 < length m → length m ≤ limit → Published m block first
+-- a message of 1 to limit bytes, for any limit that twelve bits can tell, is cut as published, whatever its block size and first number
+pub published : (limit : ℕ) → limit ≤ 4095 → (m : List ℕ) (block first : ℕ) → 0 < length m → length m ≤ limit → Published m block first
 unfolding framesOf
 published limit fits m block first nonempty within =
     record {

@@ -12,6 +12,7 @@ use borrow.Author.Tests.{le-leb}
 use Rattle.telegram.specs.Outgoing.{payloadOf, bytesOf}
 use Rattle.telegram.specs.Kinds.{kindOf, sorted, ackOf, testOf, disconnectOf, setupOf, acceptOf}
 use Rattle.telegram.specs.Cutting.{declaredOf, streamOf, framesOf, headerOf, lastAt, asksAt, frameAt}
+use Rattle.telegram.specs.declared.cutting.Message.{Message}
 use Rattle.telegram.specs.declared.kinds.Parameters.{Parameters}
 use Rattle.telegram.specs.declared.kinds.Telegram.the-variants.{Data, Ack, Test, Disconnect, Setup, Accept}
 
@@ -84,7 +85,7 @@ upper-data q r p f g h k =
     rw (b .bits7-6 ∙ div-eq-of-lt f, le-leb 2 (suc (length p)) (omega arith), le-leb (suc (length p)) 8 (omega arith), b .bits7-5, b .bits7-4, b .bits3-0)
 
 -- a first byte before one to seven others is sorted as data that says the same
-header-sorted : (asks last : Bool) (n : ℕ) (p : List ℕ) → 1 ≤ length p → length p ≤ 7
+pub header-sorted : (asks last : Bool) (n : ℕ) (p : List ℕ) → 1 ≤ length p → length p ≤ 7
     → sorted (headerOf asks last n ∷ p) ≡ record { kind = Data asks last (n % 16) }
 unfolding headerOf
 header-sorted true true n p = upper-data 1 (n % 16) p (omega arith) (omega arith)
@@ -124,10 +125,18 @@ module _ (m : List ℕ) (block first k : ℕ) where
       let b = rw frame-back at (frame-size h) in
       rw frame-back (header-sorted _ _ (first + k) _ (omega arith) (omega arith))
 
--- the first two bytes of the stream declare the length of any message that two bytes can tell
-pub stream-declares : (m : List ℕ) → length m < 65536 → declaredOf (getD (streamOf m) 0 0) (getD (streamOf m) 1 0) ≡ length m
+-- a message is its length and its flags
+message-is : (m : Message) {n f : ℕ} → n ≡ m .length → f ≡ m .flags → record { length = n; flags = f } ≡ m
+message-is m e f = rw (e, f)
+
+-- the length bytes of flags and a length that they can tell declare these
+pub declares-back : (flags n : ℕ) → flags < 16 → n < 4096 → (high : ℕ) → high ≡ 16 * flags + n / 256 → declaredOf high (n % 256) ≡ record { length = n; flags = flags }
+declares-back flags n four twelve high e = message-is (record { length = n; flags = flags }) (omega arith) (omega arith)
+
+-- the first two bytes of the stream declare the length of any message that twelve bits can tell, and no flags
+pub stream-declares : (m : List ℕ) → length m < 4096 → declaredOf (getD (streamOf m) 0 0) (getD (streamOf m) 1 0) ≡ record { length = length m; flags = 0 }
 unfolding streamOf
-stream-declares m h = let e : length m / 256 % 256 ≡ length m / 256 = mod-eq-of-lt (omega arith) in omega arith
+stream-declares m h = declares-back 0 (length m) (omega arith) h _ (omega arith)
 
 -- behind them stands the message
 pub stream-carries : (m : List ℕ) → drop 2 (streamOf m) ≡ m

@@ -5,9 +5,9 @@ use native.Mathlib.Omega.{arith}
 use mathlib.Core.Bool.{Bool, true, false, _||_, false≢true}
 use mathlib.Core.List.{List, [], _∷_, _++_, map}
 use mathlib.Core.Logic.{_↔_, _⊎_, inl, inr}
-use mathlib.Core.Path.{_≡_, refl, sym, _∙_}
+use mathlib.Core.Path.{_≡_, refl, sym, ap, subst, _∙_}
 use lib.Dec.{ltb, eqb}
-use lib.ListN.{length, getD, replicate}
+use lib.ListN.{length, take, drop, getD, replicate}
 use borrow.Author.Tests.{eqb-true, eq-eqb, ltb-false, le-ltb, ne-eqb, eqb-false}
 use Rattle.laws.specs.If.{if_then_else_}
 use Rattle.laws.proofs.Cases.{or-first, or-second}
@@ -15,8 +15,9 @@ use Rattle.telegram.specs.Time.{tenthsOf}
 use Rattle.telegram.specs.Outgoing.{payloadOf, bytesOf}
 use Rattle.telegram.specs.Kinds.{badBlock}
 use Rattle.telegram.specs.Cutting.{longest, declaredOf, streamOf, framesOf, headerOf, lastAt, asksAt, frameAt, sevens, headed, cutting}
-use Rattle.telegram.specs.Forms.{Writes, FrameInBytes, CutInBytes}
-use Rattle.telegram.proofs.RoundTrip.{frame-back}
+use Rattle.telegram.specs.Forms.{Bytes, Declares, Writes, FrameInBytes, CutInBytes}
+use Rattle.telegram.specs.declared.cutting.Message.{Message}
+use Rattle.telegram.proofs.RoundTrip.{declares-back, frame-back}
 use Rattle.telegram.proofs.Cut.{cutting-at, cutting-length}
 
 -- payloads
@@ -96,13 +97,47 @@ seven-codes = refl
 
 -- cutting
 
--- "high first": the two length bytes of every length that they can tell
-pub declared-length : (n : ℕ) → declaredOf (n / 256) (n % 256) ≡ n
-declared-length n = omega arith
+-- "high first", "the low 12 bits as length": the two length bytes of every length that they can tell
+pub declared-length : (n : ℕ) → n < 4096 → declaredOf (n / 256) (n % 256) .length ≡ n
+declared-length n h = omega arith
 
--- 04 01 declare 1,025
-pub declared-high : declaredOf 0x04 0x01 ≡ 1025
-declared-high = refl
+-- 04 01 declare 1,025, 10 05 flags 1 and length 5, 80 03 flags 8 and length 3, 80 00 no length, 84 01 again 1,025, FF FF the most that there is
+pub declared-worked : declaredOf 0x04 0x01 ∷ declaredOf 0x10 0x05 ∷ declaredOf 0x80 0x03 ∷ declaredOf 0x80 0x00 ∷ declaredOf 0x84 0x01 ∷ declaredOf 0xFF 0xFF ∷ []
+    ≡ record { length = 1025; flags = 0 } ∷ record { length = 5; flags = 1 } ∷ record { length = 3; flags = 8 } ∷ record { length = 0; flags = 8 }
+    ∷ record { length = 1025; flags = 8 } ∷ record { length = 4095; flags = 15 } ∷ []
+declared-worked = refl
+
+-- the two bytes behind the first one
+two-behind : (s : List ℕ) → 3 ≤ length s → take 2 (drop 1 s) ≡ getD s 1 0 ∷ getD s 2 0 ∷ []
+two-behind [] h = absurd (omega arith)
+two-behind (a ∷ []) h = absurd (omega arith)
+two-behind (a ∷ b ∷ []) h = absurd (omega arith)
+two-behind (a ∷ b ∷ c ∷ s) h = refl
+
+two-alike : {a b c d : ℕ} → a ≡ c → b ≡ d → a ∷ b ∷ [] ≡ c ∷ d ∷ []
+two-alike e f = rw (e, f)
+
+-- the length bytes of a first frame are those of its flags and its length, and of no other flags below 16 and length below 4,096
+pub declares-only : (s : List ℕ) → Bytes s → 3 ≤ length s → (m : Message) → declaredOf (getD s 1 0) (getD s 2 0) ≡ m ↔ Declares s m
+declares-only s small three m = (λ e. subst (Declares s) e there, back)
+  where
+    there : Declares s (declaredOf (getD s 1 0) (getD s 2 0))
+    there =
+        let h = small 1 in
+        let l = small 2 in
+        record { flags = omega arith; length = omega arith; bytes = two-behind s three ∙ two-alike (omega arith) (omega arith) }
+
+    back : Declares s m → declaredOf (getD s 1 0) (getD s 2 0) ≡ m
+    back d =
+        let b = sym (two-behind s three) ∙ d .bytes in
+        let h : getD s 1 0 ≡ 16 * m .flags + m .length / 256 = ap (λ (x : List ℕ). getD x 0 0) b in
+        let l : getD s 2 0 ≡ m .length % 256 = ap (λ (x : List ℕ). getD x 1 0) b in
+        rw l (declares-back (m .flags) (m .length) (d .flags) (d .length) (getD s 1 0) h)
+
+-- "the writer still sends flags 0": the high nibble of a first frame's length bytes is 0, whatever message is lent
+pub flags-unsent : (m : List ℕ) (block first : ℕ) → getD (bytesOf (frameAt m block first 0)) 1 0 < 16
+unfolding streamOf
+flags-unsent m block first = rw (frame-back m block first 0) (omega arith)
 
 -- "cut in sevens; the last frame may be shorter": as many frames as the two length bytes and n more take, and no more
 pub frames-enough : (n : ℕ) → (n + 2 ≤ 7 * framesOf n) × (7 * framesOf n < n + 2 + 7)
@@ -148,10 +183,10 @@ pub asks-exactly : (block n j : ℕ) → asksAt block n j ≡ true ↔ ((q : ℕ
 asks-exactly block n j = asks-where block n j (last-exactly n j)
 
 -- a frame reaches the bus as its first byte and its seven of the length bytes and the message, at every place, asked for again or not
-pub frame-bytes : (m : List ℕ) (block first j : ℕ) → length m < 65536 → FrameInBytes m block first (framesOf (length m)) j (bytesOf (frameAt m block first j))
+pub frame-bytes : (m : List ℕ) (block first j : ℕ) → length m < 4096 → FrameInBytes m block first (framesOf (length m)) j (bytesOf (frameAt m block first j))
 unfolding streamOf headerOf
 frame-bytes m block first j h =
-    let e : length m / 256 % 256 ≡ length m / 256 = mod-eq-of-lt (omega arith) in
+    let e : length m / 256 % 16 ≡ length m / 256 = mod-eq-of-lt (omega arith) in
     let last : lastAt (length m) j ≡ true ↔ j + 1 ≡ framesOf (length m) = (eqb-true (j + 1) (framesOf (length m)), eq-eqb (j + 1) (framesOf (length m))) in
     record {
       asks = asksAt block (length m) j;
@@ -162,7 +197,7 @@ frame-bytes m block first j h =
     }
 
 -- so a message is cut
-pub cut : (m : List ℕ) (block first : ℕ) → length m < 65536 → CutInBytes m block first
+pub cut : (m : List ℕ) (block first : ℕ) → length m < 4096 → CutInBytes m block first
 cut m block first h =
     let n = cutting-length m block first in
     let b = frames-enough (length m) in

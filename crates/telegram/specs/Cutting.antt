@@ -6,19 +6,24 @@ use lib.ListN.{length, take, drop}
 use lib.Dec.{eqb}
 use Rattle.laws.specs.If.{if_then_else_}
 use Rattle.telegram.specs.Outgoing.{payloadOf}
+use Rattle.telegram.specs.declared.cutting.Message.{Message}
 use Rattle.telegram.specs.declared.payload.Payload.{Payload}
 
 -- the longest message, in bytes
 abbrev pub longest : ℕ
 longest = 1024
 
--- the length that the two length bytes declare, high first
-abbrev pub declaredOf : (high low : ℕ) → ℕ
-declaredOf high low = 256 * high + low
+-- no message
+abbrev pub none : Message
+none = record { length = 0; flags = 0 }
 
--- two length bytes, high first, then the message
+-- what the two length bytes declare, high first: "the low 12 bits as length"; "the high nibble of that byte holds flags" (02, 1)
+abbrev pub declaredOf : (high low : ℕ) → Message
+declaredOf high low = record { length = 256 * (high % 16) + low; flags = high / 16 }
+
+-- two length bytes, high first, then the message; "the writer still sends flags 0" (02, 1), whatever it is lent
 unfoldable pub streamOf : List ℕ → List ℕ
-streamOf m = length m / 256 % 256 ∷ length m % 256 ∷ m
+streamOf m = length m / 256 % 16 ∷ length m % 256 ∷ m
 
 -- how many frames of seven the two length bytes and n more make; the last may be shorter
 unfoldable pub framesOf : ℕ → ℕ

@@ -9,6 +9,7 @@ use Rattle.laws.specs.If.{if_then_else_}
 use Rattle.telegram.specs.Outgoing.{bytesOf}
 use Rattle.telegram.specs.Kinds.{ackOf, testOf, disconnectOf, setupOf, acceptOf}
 use Rattle.telegram.specs.Cutting.{cutting}
+use Rattle.telegram.specs.declared.cutting.Message.{Message}
 use Rattle.telegram.specs.declared.kinds.Parameters.{Parameters}
 use Rattle.telegram.specs.declared.kinds.Telegram.{Telegram}
 use Rattle.telegram.specs.declared.kinds.Telegram.the-variants.{Data, Ack, Test, Break, Disconnect, Setup, Accept}
@@ -39,6 +40,12 @@ pub data Form (s : List ℕ) : Telegram → Type 0 where
   -- "Six bytes: A0, A1"; "T2 and T4 are read as anything"
   as-setup : (p : Parameters) (t2 t4 : ℕ) → s ≡ 0xA0 ∷ p .block ∷ p .t1 ∷ t2 ∷ p .t3 ∷ t4 ∷ [] → Form s (Setup p)
   as-accept : (p : Parameters) (t2 t4 : ℕ) → s ≡ 0xA1 ∷ p .block ∷ p .t1 ∷ t2 ∷ p .t3 ∷ t4 ∷ [] → Form s (Accept p)
+
+-- the two length bytes of a first frame, behind its first byte: four flags above twelve bits of length (02, 1)
+pub record Declares (s : List ℕ) (m : Message) : Type 0 where
+  pub flags : m .flags < 16
+  pub length : m .length < 4096
+  pub bytes : take 2 (drop 1 s) ≡ (16 * m .flags + m .length / 256) ∷ m .length % 256 ∷ []
 
 -- the bytes that each writer puts on the bus
 pub record Writes : Type 0 where

@@ -10,8 +10,8 @@ use Rattle.telegram.specs.declared.kinds.Telegram.the-variants.{Data}
 
 -- what 01 says of the message m, cut for a block size, with the number of its first frame
 pub record Published (m : List ℕ) (block first : ℕ) : Type 0 where
-  -- "Two length bytes, high first": they declare the message's length
-  pub declares : declaredOf (getD (streamOf m) 0 0) (getD (streamOf m) 1 0) ≡ length m
+  -- "Two length bytes, high first": they declare the message's length, and flags 0 (02, 1)
+  pub declares : declaredOf (getD (streamOf m) 0 0) (getD (streamOf m) 1 0) ≡ record { length = length m; flags = 0 }
   -- "then the message": nothing else stands behind them
   pub carries : drop 2 (streamOf m) ≡ m
   -- "cut": the frames without their first bytes, joined, are those bytes, each once and in order

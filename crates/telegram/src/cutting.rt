@@ -9,6 +9,19 @@ ghost use Rattle.telegram.specs.Outgoing.{payloadOf};
 ghost use Rattle.telegram.specs.Cutting.{framesOf, streamOf, headerOf, asksAt, frameAt, declaredOf, longest};
 use crate::payload::Payload;
 
+// A message as its first frame declares it: its length in bytes, and four flags, 0 to 15. Length 0 is none. Flags are as wide as
+// a length, so that a message has no gap between its fields.
+pub struct Message {
+    pub length: u16,
+    pub flags: u16,
+}
+
+// No message.
+pub const NONE: Message = Message {
+    length: 0,
+    flags: 0,
+};
+
 // The longest message, in bytes.
 pub const LONGEST: u16 = 1024;
 
@@ -19,11 +32,14 @@ pub fn limit() -> u16
     LONGEST
 }
 
-// The message length that two length bytes declare.
-pub fn declared_length(high: u8, low: u8) -> u16
+// What a first frame's two length bytes declare: twelve bits of length, and four flags above them.
+pub fn declared(high: u8, low: u8) -> Message
     ensures { λ r. ⌜ r ≡ declaredOf high low ⌝ }
 {
-    256 * (high as u16) + low as u16
+    Message {
+        length: 256 * ((high % 16) as u16) + low as u16,
+        flags: (high / 16) as u16,
+    }
 }
 
 // How many telegrams a message of len bytes makes: (len + 8) / 7, in an order that cannot overflow.
@@ -39,7 +55,7 @@ fn byte_at(message: &[u8], place: u16, i: u8) -> u8
 {
     let at = 7 * (place as usize) + i as usize;
     if at == 0 {
-        return (message.len() / 256 % 256) as u8;
+        return (message.len() / 256 % 16) as u8;
     }
     if at == 1 {
         return (message.len() % 256) as u8;

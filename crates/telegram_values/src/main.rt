@@ -4,7 +4,7 @@
 //     t  a time code
 //     m  the longest message
 //     f  how many frames a message makes: its length, high byte first
-//     l  the length that two length bytes declare
+//     l  what two length bytes declare: a length, and behind it the flags if they are not 0
 //     s  a telegram is sorted
 //     q  a request is read
 //     r  a reply is read: our own receive ID, high byte first, and the reply
@@ -14,6 +14,7 @@
 use opening::Reply;
 use opening::Request;
 use telegram::cutting;
+use telegram::cutting::Message;
 use telegram::kinds;
 use telegram::kinds::Parameters;
 use telegram::kinds::Sorted;
@@ -75,7 +76,7 @@ fn found(text: &mut [u8], at: usize, what: u8, s: &[u8]) -> usize {
         b't' => number(text, at, time::tenths(byte_at(s, 0)) as u64),
         b'm' => number(text, at, cutting::limit() as u64),
         b'f' => number(text, at, cutting::frames(pair(s) as usize) as u64),
-        b'l' => number(text, at, pair(s) as u64),
+        b'l' => declared(text, at, cutting::declared(byte_at(s, 0), byte_at(s, 1))),
         b's' => sorted(text, at, kinds::sort(s)),
         b'q' => request(text, at, opening::read_request(s)),
         b'r' => reply(text, at, opening::read_reply(behind(s, 2), pair(s))),
@@ -97,7 +98,7 @@ fn byte_at(s: &[u8], i: usize) -> u8 {
 
 // The number that the first two bytes make, high first.
 fn pair(s: &[u8]) -> u16 {
-    cutting::declared_length(byte_at(s, 0), byte_at(s, 1))
+    256 * (byte_at(s, 0) as u16) + byte_at(s, 1) as u16
 }
 
 fn behind(s: &[u8], i: usize) -> &[u8] {
@@ -128,6 +129,11 @@ fn write(s: &[u8]) -> Payload {
 fn number(text: &mut [u8], at: usize, n: u64) -> usize {
     let at = writing::byte(text, at, b' ');
     writing::decimal(text, at, n)
+}
+
+fn declared(text: &mut [u8], at: usize, m: Message) -> usize {
+    let at = number(text, at, m.length as u64);
+    writing::flags(text, at, (m.flags % 16) as u8)
 }
 
 fn flag(text: &mut [u8], at: usize, set: bool, name: &[u8]) -> usize {

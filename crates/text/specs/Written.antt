@@ -2,7 +2,7 @@
 use Prim.Native.Nat.{ℕ, zero, suc, _+_, _-_, _/_, _%_, min}
 use mathlib.Core.List.{List, [], _∷_, _++_}
 use mathlib.Core.Path.{_≡_}
-use lib.Dec.{ltb}
+use lib.Dec.{eqb, ltb}
 use lib.ListN.{length}
 use lib.Seq.{sets}
 use Rattle.laws.specs.If.{if_then_else_}
@@ -32,6 +32,10 @@ pairsOf (b ∷ s) = 32 ∷ pairOf b ++ pairsOf s
 -- an ID as three digits
 abbrev pub idOf : ℕ → List ℕ
 idOf id = glyph (id / 256 % 16) ∷ pairOf (id % 256)
+
+-- a message's flags: a blank, the word and one digit; nothing for flags 0
+abbrev pub flagsOf : ℕ → List ℕ
+flagsOf n = if eqb n 0 then [] else 32 ∷ 102 ∷ 108 ∷ 97 ∷ 103 ∷ 115 ∷ 32 ∷ glyph (n % 16) ∷ []
 
 -- the last digits of a number, as many as it has, but at most so many and one
 unfoldable pub decimalBelow : ℕ → ℕ → List ℕ

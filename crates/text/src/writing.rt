@@ -4,7 +4,7 @@ ghost use mathlib.Core.List.{[], _∷_};
 ghost use mathlib.Core.Path.{_≡_};
 ghost use lib.ListN.{take};
 ghost use Rattle.io.specs.Counts.{Counts};
-ghost use Rattle.text.specs.Written.{Writes, glyph, pairOf, pairsOf, idOf, decimalOf};
+ghost use Rattle.text.specs.Written.{Writes, glyph, pairOf, pairsOf, idOf, flagsOf, decimalOf};
 
 // One character.
 pub fn byte(text: &mut [u8], at: usize, b: u8) -> usize
@@ -71,6 +71,17 @@ pub fn id(text: &mut [u8], at: usize, id: u16) -> usize
 {
     let next = digit(text, at, (id / 256) as u8);
     pair(text, next, (id % 256) as u8)
+}
+
+// A message's flags as " flags F", F being the digit of their last four bits; nothing for flags 0.
+pub fn flags(text: &mut [u8], at: usize, n: u8) -> usize
+    ensures { λ r. ⌜ Writes (now (text .entry)) at (flagsOf n) (now (text .exit)) r ⌝ }
+{
+    if n == 0 {
+        return at;
+    }
+    let next = bytes(text, at, b" flags ");
+    digit(text, next, n)
 }
 
 // A decimal number, with no zeros before it.

@@ -1,4 +1,5 @@
 use Rattle.laws.proofs.Branches.{branches}
+use borrow.Author.Needs.{needs}
 use Rattle.receiver.proofs.Verdict.{filled-notes}
 use Rattle.receiver.proofs.outcome.Statement.{statement}
 use Rattle.receiver.proofs.outcome.Tie as tie
@@ -7,6 +8,7 @@ pub outcome-spec : {M : Type 1} → statement M
 outcome-spec =
     tie.close
     (tie.spec
+    (λ c. search needs)
     (λ c. rw filled-notes (search branches))
     (λ c. rw filled-notes (search branches))
     (λ c. rw filled-notes (search branches))

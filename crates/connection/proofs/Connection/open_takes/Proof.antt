@@ -10,4 +10,4 @@ open-takes-spec =
     (tie.spec
     (λ c κs. search needs)
     (λ c κs. search needs)
-    (λ c. rw (c .shows .ensures, c .before .before .take-step .ensures)))
+    (λ c. rw (c .shows .ensures, c .before .before .before .take-step .ensures)))

@@ -7,4 +7,5 @@ shows-spec =
     tie.close
     (tie.spec
     (λ c κs. search needs)
-    (λ c. rw (c .tell .ensures)))
+    (λ c. search needs)
+    (λ c. rw (c .before .tell .ensures)))

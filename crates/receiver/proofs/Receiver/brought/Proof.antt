@@ -17,4 +17,4 @@ brought-spec =
     (λ c. search needs)
     (λ c κs. search needs)
     (λ c. search needs)
-    (λ c. rw (c .declared-length .ensures) (search branches)))
+    (λ c. rw (c .declared .ensures) (search branches)))

@@ -29,6 +29,5 @@ verdict-spec =
     (λ c. search (by-order, branches))
     (λ c. search needs)
     (λ c. search (by-order, branches))
-    (λ c. search needs)
     (λ c κs. search needs)
     (λ c. search (by-order, branches)))
