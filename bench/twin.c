@@ -25,6 +25,7 @@ enum kind { DATA, ACK, TEST, BREAK, DISCONNECT, SETUP, ACCEPT, MALFORMED };
 
 struct telegram {
     enum kind kind;
+    bool padded; /* a control telegram filled up to 8 bytes */
     bool asks, last, ready;
     uint8_t number;
     struct fields fields;
@@ -61,22 +62,29 @@ static inline struct telegram sort(const uint8_t *s, size_t n)
         t.number = b & 15;
         return t;
     }
-    if (n == 1) {
+    if (n == 1 || n == 8) {
+        t.padded = n == 8;
         switch (b) {
         case 0xA3: t.kind = TEST; return t;
         case 0xA4: t.kind = BREAK; return t;
         case 0xA8: t.kind = DISCONNECT; return t;
         }
-        if ((b & 0xD0) != 0x90)
+        if ((b & 0xD0) == 0x90) {
+            t.kind = ACK;
+            t.ready = b & 0x20;
+            t.number = b & 15;
             return t;
-        t.kind = ACK;
-        t.ready = b & 0x20;
-        t.number = b & 15;
+        }
+        t.padded = false;
+    }
+    if (n == 6 && b == 0xA0) {
+        t.kind = SETUP;
+    } else if ((n == 6 || n == 8) && b == 0xA1) {
+        t.kind = ACCEPT;
+        t.padded = n == 8;
+    } else {
         return t;
     }
-    if (n != 6 || (b != 0xA0 && b != 0xA1))
-        return t;
-    t.kind = b == 0xA0 ? SETUP : ACCEPT;
     t.fields = (struct fields){s[1], s[2], s[4]};
     return t;
 }
@@ -474,8 +482,9 @@ static inline enum answer on_open(struct connection *c, const struct telegram *t
 }
 
 static enum answer connection_arrive(struct connection *c, uint16_t id, const uint8_t *s, size_t n, uint8_t *buffer,
-                                     size_t room)
+                                     size_t room, bool *padded)
 {
+    *padded = false;
     if (c->phase == CLOSED)
         return NOT_DUE;
     if (id != (c->phase == REQUESTING ? 0x200 + c->settings.unit : c->settings.receive))
@@ -483,6 +492,7 @@ static enum answer connection_arrive(struct connection *c, uint16_t id, const ui
     if (c->phase == REQUESTING)
         return on_reply(c, s, n);
     struct telegram t = sort(s, n);
+    *padded = t.padded;
     if (c->phase == AGREEING)
         return on_agreeing(c, &t);
     return on_open(c, &t, s, n, buffer, room);
@@ -679,7 +689,8 @@ static bool run(struct connection *from, struct connection *to, struct tally *ta
         connection_due(from, message, len, &given, &f);
         if (from->phase != OPEN || !given)
             return false;
-        bool done = connection_arrive(to, f.id, f.payload.bytes, f.payload.len, buffer, sizeof buffer) == DONE;
+        bool padded;
+        bool done = connection_arrive(to, f.id, f.payload.bytes, f.payload.len, buffer, sizeof buffer, &padded) == DONE;
         if (to->phase != OPEN)
             return false;
         count(tally, &f.payload);

@@ -4,6 +4,7 @@ console's line protocol; and a car's unit as the other end. Run as a program, it
 line by line as the console does.
 
 A call answers a pair: the number, and what it carries (None, "done", an opcode, a frame, a message with its flags).
+The answer to an arriving frame has a third part: whether it carries the mark of a padded telegram.
 A timer at 0 does not run: every time that can be waited for is above 0, but for the peer's T3.
 """
 
@@ -42,20 +43,30 @@ RANGES = ((0, 0x7FF), (0x00, 0xEF), (1, 15), (0, 255), (0, 255), (1, 10000),
           (0, 255), (0, 255), (1, 65535), (0, 65535), (0, 255))
 
 
-def kind_of(data):
-    """Each telegram is sorted before any rule looks at it; None is badly formed."""
-    if not data:
-        return None
-    first = data[0]
-    if 2 <= len(data) <= 8 and first & 0xC0 == 0x00:
+# Request 4: the kinds that some units fill up to 8 bytes. Data has its own length there, and A0 is not named.
+FILLABLE = ("ack", "test", "break", "disconnect", "A1")
+
+
+def named(first):
+    """The kind that a first byte names, whatever the length."""
+    if first & 0xC0 == 0x00:
         return "data"
-    if len(data) == 1:
-        if first & 0xD0 == 0x90:
-            return "ack"
-        return {0xA3: "test", 0xA4: "break", 0xA8: "disconnect"}.get(first)
-    if len(data) == 6:
-        return {0xA0: "A0", 0xA1: "A1"}.get(first)
-    return None
+    if first & 0xD0 == 0x90:
+        return "ack"
+    return {0xA0: "A0", 0xA1: "A1", 0xA3: "test", 0xA4: "break", 0xA8: "disconnect"}.get(first)
+
+
+def sort(data):
+    """Each telegram is sorted before any rule looks at it: its kind, None if it is badly formed, and whether it is
+    padded."""
+    kind, length = named(data[0]) if data else None, len(data)
+    if kind in FILLABLE and length == 8:
+        return kind, True
+    if kind == "data":
+        good = 2 <= length <= 8
+    else:
+        good = length == (6 if kind in ("A0", "A1") else 1)
+    return kind if good else None, False
 
 
 class Message(NamedTuple):
@@ -271,15 +282,20 @@ class Connection:
         return SETUP_ID + self.settings.unit if self.phase == "setup" else self.settings.rx
 
     def arrive(self, ident, data, buffer):
+        """Every answer but 1, 3 and a closed record's 4 carries the mark on; until the D0 nothing is sorted."""
         if self.phase == "closed":
-            return 4, None
+            return 4, None, False
         if ident != self.listens_on():
-            return 3, None
+            return 3, None, False
         if self.phase == "setup":
-            return self.arrive_setup(data)
-        kind = kind_of(data)
+            return (*self.arrive_setup(data), False)
+        kind, padded = sort(data)
         if kind is None:
-            return 1, None
+            return 1, None, False
+        return (*self.arrive_sorted(kind, data, buffer), padded)
+
+    def arrive_sorted(self, kind, data, buffer):
+        """Padding alters nothing here: no rule looks behind a kind's own bytes."""
         if kind == "disconnect":
             self.shut(self.tx)
             return 0, None
@@ -565,7 +581,9 @@ class Console:
         return spoken(*result)
 
 
-def spoken(number, value):
+def spoken(number, value, padded=False):
+    if padded:
+        return spoken(number, value) + " padded"
     if value is None:
         return "%d" % number
     if value == "done":
@@ -583,7 +601,7 @@ def spoken(number, value):
 class Car:
     """A unit in the car, for realistic traffic: it answers the opening, acknowledges, sends messages of its own,
     is not ready now and then, tests, breaks off and disconnects. `habits` gives each its chance (0 if not named):
-    refuse, refuse_data, hold, test, break, bye, speak, flag."""
+    refuse, refuse_data, hold, test, break, bye, speak, flag, pad."""
 
     def __init__(self, rng, tx, block, t3, habits):
         self.rng, self.tx, self.block, self.t3, self.habits = rng, tx, block, t3, habits
@@ -593,6 +611,10 @@ class Car:
 
     def chance(self, habit):
         return self.rng.random() < self.habits.get(habit, 0)
+
+    def control(self, *data):
+        """A control telegram as it goes out, padded with any content or not."""
+        return bytes(data) + self.rng.randbytes(8 - len(data) if self.chance("pad") else 0)
 
     def start(self):
         self.agreed = self.block
@@ -613,16 +635,16 @@ class Car:
             return [(SETUP_ID + unit, bytes([0, 0xD0, *own, self.tx & 0xFF, self.tx >> 8, 1]))]
         if self.rx is None or ident != self.tx:
             return []
-        kind = kind_of(data)
+        kind, _ = sort(data)
         if kind == "A0":
             self.start()
             self.agreed = min(self.block, data[1])
             self.parameters = True
         if kind in ("A0", "test"):
-            return [(self.rx, bytes([0xA1, self.block, 0x8A, 0xFF, self.t3, 0xFF]))]
+            return [(self.rx, self.control(0xA1, self.block, 0x8A, 0xFF, self.t3, 0xFF))]
         if kind == "disconnect":
             rx, self.rx = self.rx, None
-            return [(rx, b"\xA8")]
+            return [(rx, self.control(0xA8))]
         if kind == "ack":
             self.hear_ack(data[0])
         elif kind == "data":
@@ -653,17 +675,17 @@ class Car:
                 self.stream = b""
         if data[0] & 0x20:
             return []
-        return [(self.rx, bytes([(0xB0 if ready else 0x90) | self.expected]))]
+        return [(self.rx, self.control((0xB0 if ready else 0x90) | self.expected))]
 
     def work(self, lengths):
         """What it sends of its own accord: at most one frame; None if it has nothing to say."""
         if self.rx is None or not self.parameters:
             return None
         if self.chance("test"):
-            return self.rx, b"\xA3"
+            return self.rx, self.control(0xA3)
         if self.chance("bye"):
             rx, self.rx = self.rx, None
-            return rx, b"\xA8"
+            return rx, self.control(0xA8)
         if self.message is None:
             if not self.chance("speak"):
                 return None
@@ -671,7 +693,7 @@ class Car:
             self.flags = self.rng.randrange(1, 16) if self.chance("flag") else 0
         elif self.chance("break"):
             self.next, self.waiting = self.oldest, False
-            return self.rx, b"\xA4"
+            return self.rx, self.control(0xA4)
         if self.waiting or self.pausing:
             return None
         frame, self.waiting = cut(self.message, self.next, self.agreed, (self.number + self.next) % 16, self.flags)

@@ -1,7 +1,7 @@
 """Which places of the rules a scenario reaches: both sides of each limit, each row, each end of a timer."""
 
 import model
-from model import Settings, kind_of
+from model import Settings, named, sort
 
 
 def name_of(line):
@@ -15,11 +15,17 @@ def label(line, answer):
     words = answer.split()
     if words[0] == "error":
         return "error"
-    if words[0] == "11" or words[-1] == "done":
+    if words[0] == "11" or words[-1] in ("done", "padded"):
         return answer
     if words[0] == "0" and len(words) > 1:
         return "0 flags" if words[1] == "flags" else "0 message" if name_of(line) == b"take" else "0 frame"
     return words[0]
+
+
+def outcome(answer):
+    """An answer's number with `done` and `padded`, without what else it carries."""
+    number, *words = answer.split(" ")
+    return " ".join([number, *(word for word in words if word in ("done", "padded"))])
 
 
 # Declared lengths at the limits, with what they are answered where the buffer is long enough.
@@ -116,20 +122,45 @@ def place_of_end(c, name):
         yield "%s ends" % name
 
 
+def filled(console, line):
+    """What is left of a padded telegram without its padding; None if the line is none, or one that is not sorted. Told by
+    the bytes and not by the model's sorting, so that each is held to the other."""
+    words = [word for word in line.split(b" ") if word]
+    c = console.connection
+    if words[:1] != [b"frame"] or c.phase not in ("parameters", "open"):
+        return None
+    try:
+        ident, data = model.identifier(words[1]), model.octets(words[2:])
+    except (model.Malformed, IndexError):
+        return None
+    if ident != c.settings.rx or len(data) != 8:
+        return None
+    if data[0] == 0xA1:
+        return data[:6]
+    return data[:1] if data[0] in (0xA3, 0xA4, 0xA8, *range(0x90, 0xA0), *range(0xB0, 0xC0)) else None
+
+
 def place_of_frame(console, ident, data):
     c = console.connection
-    if c.phase == "closed":
+    where = "closed" if c.phase == "closed" else "another ID" if ident != c.listens_on() else c.phase
+    if data:
+        yield "%s of %d, %s" % (named(data[0]), len(data), where)
+    if where == "closed":
         yield "frame closed"
-        return
-    if ident != c.listens_on():
+    if where in ("closed", "another ID"):
         return
     yield "bytes %s %d" % (c.phase, len(data))
     if c.phase == "setup":
         if len(data) == 7 and data[1] in (0xD0, 0xD6, 0xD7, 0xD8):
             yield "reply %02X, asked %s, due %s" % (data[1], c.asked, c.asking)
+        if len(data) == 8 and data[0] == 0x00 and c.asked:
+            yield "reply %02X of 8" % data[1]
         return
-    kind = kind_of(data)
+    kind, padded = sort(data)
     yield "kind %s %s" % (c.phase, kind)
+    if kind == "A1" and padded and (c.asked if c.phase == "parameters" else c.test_out):
+        yield "padded A1, %s, block size %s, behind it %s" % (
+            c.phase, *("good" if 1 <= size <= 15 else "bad" for size in (data[1], data[6])))
     if kind == "A1" and data[1] in (0, 1, 15, 16):
         if c.phase == "parameters":
             yield "A1 block %d, asked %s, due %s" % (data[1], c.asked, c.asking)
@@ -316,11 +347,26 @@ take without flags after first frame of a flagged message, 9: 0
 take with flags after later frame of a flagged message, 0: 0
 take with flags after later frame of a flagged message, 7: 0
 take without flags after later frame of a flagged message, 9: 0
+ack of 8, open: 0 padded|ack of 8, open: 0 done padded|ack of 8, open: 8 padded|ack of 8, open: 12 padded
+test of 8, open: 0 padded|break of 8, open: 0 padded|disconnect of 8, open: 0 padded|A1 of 8, open: 0 padded
+A1 of 8, open: 2 padded|A1 of 8, open: 4 padded|ack of 8, parameters: 4 padded|test of 8, parameters: 4 padded
+break of 8, parameters: 4 padded|disconnect of 8, parameters: 0 padded|A1 of 8, parameters: 0 padded
+A1 of 8, parameters: 2 padded|A1 of 8, parameters: 4 padded|reply D0 of 8: 1|reply D6 of 8: 1|reply D7 of 8: 1
+reply D8 of 8: 1|data of 8, parameters: 4|data of 8, open: 0|data of 8, open: 5|data of 8, open: 7|data of 8, open: 9
+data of 8, open: 12|padded A1, parameters, block size good, behind it good: 0 padded
+padded A1, parameters, block size good, behind it bad: 0 padded
+padded A1, parameters, block size bad, behind it good: 2 padded
+padded A1, parameters, block size bad, behind it bad: 2 padded|padded A1, open, block size good, behind it good: 0 padded
+padded A1, open, block size good, behind it bad: 0 padded|padded A1, open, block size bad, behind it good: 2 padded
+padded A1, open, block size bad, behind it bad: 2 padded
 """
 
 
 ANSWERS = ("0", "0 done", "0 frame", "0 message", "0 flags", *map(str, range(1, 11)), "11 D6", "11 D7", "11 D8", "12",
-           "buffer", "error")
+           "0 padded", "0 done padded", "2 padded", "4 padded", "8 padded", "12 padded", "buffer", "error")
+
+# The lengths of control telegrams; all but A0 may have 8 bytes too.
+OWN = {"ack": 1, "test": 1, "break": 1, "disconnect": 1, "A0": 6, "A1": 6}
 
 
 def summary(tally):
@@ -334,5 +380,12 @@ def missing(tally):
         "take, flags %X: 0", "take, flags %X: 7", "first frame, room one less, flags %X: 7",
         "first frame, room equal, flags %X: 0", "first frame, room one more, flags %X: 0",
         *("declared %d, flags %%X: %d" % pair for pair in DECLARED.items()))]
+    odd = ["%s of %d, %s: 1" % (kind, length, phase) for kind, own in OWN.items() for length in range(1, 10)
+           if length not in (own, 8) or (kind, length) == ("A0", 8) for phase in ("parameters", "open")]
+    unsorted = [place % kind for kind in OWN
+                for place in ("%s of 8, closed: 4", "%s of 8, another ID: 3", "%s of 8, setup: 1")]
     places = [place for line in REACHED.strip().split("\n") for place in line.split("|")]
-    return [name for name in [*ANSWERS, *lengths, *flags, *places] if not tally[name]]
+    # Padding alters nothing: what an Ack, a break or an A1 meets, a padded one has met too.
+    padded = [place + " padded" for place in places
+              if place.startswith(("ack ", "break", "A1 ")) and "padded" not in place]
+    return [name for name in [*ANSWERS, *lengths, *flags, *odd, *unsorted, *places, *padded] if not tally[name]]

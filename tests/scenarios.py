@@ -1,9 +1,12 @@
 """Random scenarios for a console: lines, and the model's answer to each. The model leads them, so that most lines
 are at the edge of a rule."""
 
+import copy
+import types
+
 import model
 from model import Settings
-from reached import DECLARED, WIDEST, label, name_of, past_after, picture, place_of, timers
+from reached import DECLARED, WIDEST, filled, label, name_of, outcome, past_after, picture, place_of, timers
 
 HUGE = (65535, 65536, 2**31, 2**32 - 1, 2**32, 2**63, model.TIME - 1, model.TIME, model.TIME, model.TIME)
 LENGTHS = (1, 1, 2, 4, 5, 6, 11, 12, 13, 26, 100, 102, 103, 104, 105, 110, 208, 209)
@@ -19,6 +22,7 @@ class Play:
         self.lines, self.expected = [], []
         self.past = set()       # as past_after has it
         self.returns = rng.choice((0, 0, 0, 0, 0, 0, 0.5, 1))       # how many lines end in CR LF
+        self.pads = rng.choice((0, 0.2, 0.5, 0.9))                  # how many of the unit's control telegrams are padded
         self.say("new")
 
     @property
@@ -33,6 +37,7 @@ class Play:
         before = picture(self.console) if self.check else None
         sent, line = line, model.without_return(line)
         places = list(place_of(self.console, line, self.past)) if line.strip(b" ") and line[:1] != b"#" else []
+        bare = self.bare(line) if self.check else None
         answer = self.console.answer(sent)
         self.lines.append(sent)
         self.expected.append(answer)
@@ -42,11 +47,26 @@ class Play:
         self.tally[label(line, answer)] += 1
         number = answer.split(" ")[0]
         for place in places:
-            self.tally["%s: %s" % (place, answer if answer == "0 done" else number)] += 1
+            self.tally["%s: %s" % (place, outcome(answer))] += 1
         self.past = past_after(self.past, self.console, line, places, answer)
         if self.check:
             self.left_alone(line, number, before)
+            # The mark stands exactly on the answer to a padded telegram, and padding alters nothing else.
+            assert answer.endswith("padded") == (bare is not None), (line, answer)
+            assert bare is None or bare == (answer[:-len(" padded")], picture(self.console)), (line, answer, bare)
         return answer
+
+    def bare(self, line):
+        """Where the line is a padded telegram that is sorted: the answer at its own length, and the picture after it."""
+        data = filled(self.console, line)
+        if data is None:
+            return None
+        c = self.console
+        storage = bytearray(c.storage)
+        twin = types.SimpleNamespace(connection=copy.deepcopy(c.connection), storage=storage,
+                                     buffer=memoryview(storage)[:len(c.buffer)])
+        answer = model.spoken(*twin.connection.arrive(c.connection.listens_on(), data, twin.buffer))
+        return answer, picture(twin)
 
     def count_returns(self, sent, answer):
         """Where a CR stands, and what came of it."""
@@ -100,6 +120,23 @@ class Play:
     def heard(self, *data):
         """A frame on the ID that the record listens on; any, if it is closed."""
         return self.frame(0x300 if self.c.phase == "closed" else self.c.listens_on(), data)
+
+    def filling(self, count):
+        """What may stand behind a padded telegram: anything, also what is a telegram by itself."""
+        way = self.rng.randrange(5)
+        if way == 0:
+            return bytes([self.rng.choice((0x00, 0x55, 0xAA, 0xFF))]) * count
+        if way == 1:
+            return (self.rng.choice((b"\xA8", b"\xA3", b"\xA4", b"\x10\x00\x01", b"\xA1\x0F\x8A\xFF\x32\xFF"))
+                    + self.bytes(8))[:count]
+        if way == 2:
+            return bytes([self.rng.choice((0x90, 0xB0)) | self.rng.randrange(16)]) * count
+        return self.bytes(count)
+
+    def control(self, *data):
+        """A telegram on the ID that the record listens on, at its own length or filled up to 8 bytes, which for an A0 is
+        badly formed."""
+        return self.heard(*data, *self.filling(8 - len(data) if self.rng.random() < self.pads else 0))
 
     def open(self, settings):
         return self.say("open " + " ".join(map(str, settings)))
@@ -183,7 +220,7 @@ class Play:
         return self.heard(*reply)
 
     def a1(self, block, t3):
-        return self.heard(0xA1, block, self.rng.randrange(256), self.rng.randrange(256), t3, self.rng.randrange(256))
+        return self.control(0xA1, block, self.rng.randrange(256), self.rng.randrange(256), t3, self.rng.randrange(256))
 
     def opening(self, settings=None, tx=0x740, block=15, t3=0, mess=0.0):
         """Opens a connection; with mess it goes wrong on the way, and may end closed."""
@@ -230,10 +267,10 @@ class Play:
         elif way == "close":
             self.say("close")
         elif way == "A8":
-            self.heard(0xA8)
+            self.control(0xA8)
         elif way == "other kind":
-            self.heard(*rng.choice(((0x00, 0x00, 0x01, 0x55), (0xB0,), (0x90,), (0xA3,), (0xA4,),
-                                    (0xA0, 15, 0x8A, 0xFF, 0x32, 0xFF), (0x10, 1))))
+            self.control(*rng.choice(((0x00, 0x00, 0x01, 0x55), (0xB0,), (0x90,), (0xA3,), (0xA4,),
+                                      (0xA0, 15, 0x8A, 0xFF, 0x32, 0xFF), (0x10, 1))))
         elif way == "silence":
             phase = self.c.phase
             for _ in range(rng.choice((3, 12, 300))):
@@ -302,7 +339,7 @@ class Play:
         count = s.unacknowledged()
         distance = self.rng.choice((count, count, count, count, 0, 1, count + 1, count - 1, 15, self.rng.randrange(16)))
         ready = 0x20 if self.rng.random() < 0.75 else 0x00
-        self.heard(0x90 | ready | (s.number + s.oldest + distance) % 16)
+        self.control(0x90 | ready | (s.number + s.oldest + distance) % 16)
 
     def data(self):
         r, rng = self.c.receiver, self.rng
@@ -342,7 +379,8 @@ class Play:
         c = self.c
         ident = self.rng.choice((c.tx, 0x200, 0x200 + c.settings.unit, c.settings.rx ^ 1, c.settings.rx | 0x800, 0xFFFF,
                                  self.rng.randrange(0x10000)))
-        self.frame(ident, self.bytes(self.rng.randrange(13)))
+        first = self.rng.choice((b"", b"\xB0", b"\x90", b"\xA3", b"\xA4", b"\xA8", b"\xA1\x0F\x8A\xFF\x32\xFF"))
+        self.frame(ident, first + self.filling(8 - len(first)) if first else self.bytes(self.rng.randrange(13)))
 
     def idle(self):
         self.say(self.rng.choice(("", " ", "    ", "#", "# words", "#new", "#" + "x" * 200, "\r", " \r", "# words\r", "#\r#")))
@@ -384,8 +422,8 @@ class Play:
         if way == "junk":
             self.junk()
         elif way == "telegram":
-            self.heard(*self.rng.choice(((0xA8,), (0xA3,), (0xB0,), (0x10, 0, 1, 1),
-                                         (0xA1, 15, 0x8A, 0xFF, 0x32, 0xFF))))
+            self.control(*self.rng.choice(((0xA8,), (0xA3,), (0xA4,), (0xB0,), (0x10, 0, 1, 1),
+                                           (0xA1, 15, 0x8A, 0xFF, 0x32, 0xFF))))
         elif way == "close":
             self.say("close")
         elif way == "take":
@@ -415,15 +453,15 @@ class Play:
         if way == "due":
             self.due()
         elif way == "break":
-            self.heard(0xA4)
+            self.control(0xA4)
         elif way == "test":
-            self.heard(0xA3)
+            self.control(0xA3)
         elif way == "A1":
             self.a1(self.rng.choice((15, 1, 0, 16, self.rng.randrange(256))), self.rng.randrange(256))
         elif way == "A0":
-            self.heard(0xA0, 15, 0x8A, 0xFF, 0x32, 0xFF)
+            self.control(0xA0, 15, 0x8A, 0xFF, 0x32, 0xFF)
         elif way == "bye":
-            self.heard(0xA8)
+            self.control(0xA8)
         elif way in ("close", "take"):
             self.say(way)
         elif way == "open":
@@ -644,22 +682,29 @@ def every_first_byte(play, phase):
 
 
 def every_ack(play):
-    """Every Ack while each number of frames is unacknowledged."""
+    """Every Ack, bare and padded, while each number of frames is unacknowledged."""
     for count in range(16):
         for first in (*range(0x90, 0xA0), *range(0xB0, 0xC0)):
-            if play.c.phase != "open" or play.c.sender.unacknowledged() != count or play.c.sender.hold:
-                play.say("close")
-                play.opening(Settings(block=15, interval=0, repeats=1))
-                play.send((208,))
-                for _ in range(count):
-                    play.due()
-            play.heard(first)
+            for behind in (b"", play.filling(7)):
+                if play.c.phase != "open" or play.c.sender.unacknowledged() != count or play.c.sender.hold:
+                    play.say("close")
+                    play.opening(Settings(block=15, interval=0, repeats=1))
+                    play.send((208,))
+                    for _ in range(count):
+                        play.due()
+                play.heard(first, *behind)
+    for behind in (b"", play.filling(7)):       # a message that is one block
+        opened(play, block=15)
+        play.send((103,))
+        for _ in range(15):
+            play.due()
+        play.heard(0xBF, *behind)
 
 
-def opened(play):
+def opened(play, **fixed):
     play.say("close")
     play.say("room 1024")
-    play.opening(Settings(interval=0))
+    play.opening(Settings(interval=0, **fixed))
 
 
 BITS = (0x00, 0x10, 0x20, 0x30)         # asks for an Ack or not, EOM or not
@@ -691,7 +736,8 @@ def every_later_frame(play):
 
 
 def every_flags(play):
-    """Every value of the flags, on messages behind each other: at both sides of each limit, and over breaks."""
+    """Every value of the flags, on messages behind each other: at both sides of each limit, and over breaks, every other
+    time padded."""
     for flags in range(16):
         opened(play)
         for declared in DECLARED:
@@ -712,11 +758,11 @@ def every_flags(play):
             play.first(bits, 12, flags)
             play.later(0x20, count)
             play.say("take")
-            play.heard(0xA4)
+            play.heard(0xA4, *play.filling(7 * (flags % 2)))
             if again is not None:
                 play.first(0x20, 12, again)
             play.later(0x10, 7)
-            play.heard(0xA4)
+            play.heard(0xA4, *play.filling(7 * (flags % 2)))
             play.say("take")
             play.due()
 
@@ -726,7 +772,7 @@ def after_data(play):
     play.due()
     play.say("take")
     if play.rng.random() < 0.3:
-        play.heard(0xA4)
+        play.control(0xA4)
     play.heard(0x10 | play.c.receiver.expected, 0x00, 0x01, 0x77)
     play.due()
     play.say("take")
@@ -738,7 +784,7 @@ def whole(play, length):
     play.send((length,))
     while s.length is not None:
         if s.wait:
-            play.heard(0xB0 | (s.number + s.next) % 16)
+            play.control(0xB0 | (s.number + s.next) % 16)
         else:
             play.due()
     message, flags = play.bytes(length), play.flags()
@@ -792,9 +838,122 @@ def every_time_code(play):
             play.due()
 
 
+# What a telegram can meet.
+STATES = ("closed", "A8 due", "C0 due", "D0 awaited", "A0 due", "A1 awaited", "A0 due again", "fresh", "test out",
+          "test due again", "message begun", "message waits", "frames out", "wait", "repeats used up", "hold")
+
+
+def brought(play, state, block=3):
+    """A new record in this state. Tests go after 200 without a frame; of these, 50 are left on a fresh connection."""
+    play.say("new")
+    if state == "closed":
+        return
+    play.open(Settings(block=block, repeats=1, twait=300, interval=200))
+    if state == "C0 due":
+        return
+    play.due()
+    if state == "D0 awaited":
+        return
+    play.heard(*play.d0(0x740))
+    if state == "A8 due":
+        play.say("close")
+    if state in ("A8 due", "A0 due"):
+        return
+    play.due()
+    if state == "A0 due again":
+        play.wait(1000)
+    if state in ("A1 awaited", "A0 due again"):
+        return
+    play.a1(15, 0)
+    if state == "fresh":
+        play.wait(150)
+    elif state.startswith("test"):
+        play.wait(200)
+        play.due()
+        if state == "test due again":
+            play.wait(1000)
+    elif state == "message begun":
+        play.first(0x00, 19, play.flags())
+        play.due()
+        play.later(0x20, 7)
+    elif state == "message waits":
+        play.first(0x10, 5, play.flags())
+    elif state in ("frames out", "hold"):
+        play.send((26,))
+        play.due()
+        play.due()
+        if state == "hold":
+            play.heard(0x91)
+    else:
+        play.send((12,))
+        play.due()
+        play.due()
+        if state == "repeats used up":
+            play.wait(1000)
+            play.due()
+            play.due()
+
+
+def telegrams(play):
+    """One of each kind, three for an Ack, and some of no kind, as they suit the record; what follows is anything."""
+    oldest = count = expected = 0
+    if play.c.phase == "open":
+        s, expected = play.c.sender, play.c.receiver.expected
+        oldest, count = s.number + s.oldest, s.unacknowledged()
+    return ((0x10 | expected, 0x80, 0x05), (0x20 | expected,), (0xB0 | (oldest + count) % 16,), (0x90 | oldest % 16,),
+            (0xB0 | (oldest + count + 1) % 16,), (0xA3,), (0xA4,), (0xA8,), (0xA0, 5, 0x8A, 0xFF, 0, 0xFF),
+            (0xA1, 5, 0x8A, 0xFF, 0, 0xFF), (0xA2,), (0x01, 0xC0, 0x00, 0x10, 0x00, 0x03, 0x01),
+            *((0x00, opcode, 0x00, 0x03, 0x40, 0x07, 0x01) for opcode in (0xD0, 0xD6, 0xD7, 0xD8)))
+
+
+def every_padding(play):
+    """Every kind at every length up to one too long, in every state, on the ID listened on and on another."""
+    for state in STATES:
+        for which in range(len(telegrams(play))):
+            for shift in (0, 1):
+                brought(play, state)
+                for length in range(1, 10):
+                    start = bytes(telegrams(play)[which])
+                    before = picture(play.console)
+                    ident = 0x300 if play.c.phase == "closed" else play.c.listens_on()
+                    play.frame(ident + shift, (start + play.filling(8))[:length])
+                    if picture(play.console) != before:
+                        after_control(play)
+                        brought(play, state)
+                after_control(play)
+
+
+def after_control(play):
+    """What shows how the telegrams before were taken."""
+    play.due()
+    play.say("take")
+    for span in (0, 199, 1, 300):
+        play.wait(span)
+        play.due()
+
+
+def every_padded_a1(play):
+    """Block sizes on both sides of the limits with others in the padding, wherever an A1 can come: the frames that follow
+    show which was taken, and their gap, 30 if it was, that T3 is byte 4."""
+    for block in (0, 1, 2, 8, 15, 16, 255):
+        for behind in ((0, 0), (1, 1), (3, 15), (15, 3), (16, 255), play.bytes(2)):
+            for state in ("A0 due", "A1 awaited", "A0 due again", "fresh", "test out", "test due again"):
+                brought(play, state, 15)
+                play.heard(0xA1, block, 0x41, play.rng.randrange(256), 0x43, play.rng.randrange(256), *behind)
+                if play.c.phase != "open":
+                    after_control(play)
+                    continue
+                play.send((208,))
+                play.due()
+                while not play.c.sender.wait:
+                    for span in (29, 1):
+                        play.wait(span)
+                        play.due()
+
+
 SWEEPS = (limits, every_reply, lambda play: every_first_byte(play, "parameters"),
           lambda play: every_first_byte(play, "open"), every_ack, every_first_frame, every_later_frame, every_flags,
-          every_length, every_block, every_default, every_time_code)
+          every_length, every_block, every_default, every_time_code, every_padding, every_padded_a1)
 
 
 # At random
@@ -863,7 +1022,8 @@ def full_blocks(play, rng, steps):
 def talking(play, rng, steps, lengths, loss=0.0, clean=False):
     """Both ends talk; unless clean, frames are also repeated and change places, and the car refuses and leaves."""
     pick = rng.choice
-    habits = {"speak": 0.5, "hold": pick((0, 0.05, 0.3)), "test": pick((0, 0.02)), "flag": pick((0, 0.3))}
+    habits = {"speak": 0.5, "hold": pick((0, 0.05, 0.3)), "test": pick((0, 0.02)), "flag": pick((0, 0.3)),
+              "pad": pick((0, 0.5, 0.9))}
     if not clean:
         habits.update({"break": pick((0, 0.01, 0.05)), "refuse": 0.1, "refuse_data": 0.3, "bye": pick((0, 0.002))})
     own = play.settings(t1=0x8A, interval=pick((0, 3000, 10000)), repeats=255 if clean else pick((5, 20)), tests=5,

@@ -5,6 +5,7 @@ use mathlib.Core.List.{List}
 use mathlib.Core.Logic.{_≢_}
 use mathlib.Core.Path.{_≡_, refl, ap}
 use lib.Dec.{eqb}
+use lib.ListN.{length}
 use borrow.Author.Tests.{ne-eqb}
 use Rattle.laws.specs.If.{if_then_else_}
 use Rattle.laws.proofs.Cases.{by, by-not}
@@ -22,6 +23,7 @@ use Rattle.receiver.specs.Receiving.{received, returned}
 use Rattle.receiver.specs.declared.Receipt.{Receipt}
 use Rattle.receiver.specs.declared.Receipt.the-variants.{Used, Complete, ThrownAway, OutOfPlace, Untaken, ShortFirst, ShortLater, Broken as BrokenBy, NoData}
 use Rattle.receiver.specs.declared.Received.{Received}
+use Rattle.receiver.proofs.Laws.{NotData, received-other, buffered-unused}
 use Rattle.channel.specs.declared.Answer.{Answer}
 use Rattle.channel.specs.declared.Answer.the-variants.{Good, Disconnected, Malformed as BadForm, BlockSize, NotDue}
 use Rattle.channel.specs.declared.Channel.{Channel}
@@ -29,7 +31,7 @@ use Rattle.channel.specs.declared.Answered.{Answered}
 use Rattle.channel.specs.Numbers.{said, closes}
 use Rattle.channel.specs.Opened.{withSender, withReceiver, withTests, withAccept, noneOut}
 use Rattle.channel.proofs.Closing.{Settles, gives-up, goes-on}
-use Rattle.arrival.specs.Arrived.{dataAnswer, ackAnswer, answered, onData, onAck, onAccept, arrived}
+use Rattle.arrival.specs.Arrived.{dataAnswer, ackAnswer, answered, onData, onAck, onAccept, arrived, bufferedBy}
 
 -- ---- the interval
 
@@ -97,6 +99,10 @@ module _ (limit : ℕ) (c : Channel) (p : List ℕ) (room : ℕ) where
     where
       go : {r : Received} {h : Heard} {x : Answered} → ArrivalOutcome c r h (Ack ready number) x → x ≡ answers (ackAnswer (h .note)) (withSender c (h .sender))
       go ack-came = refl
+
+-- none but data is written
+pub unwritten : (limit : ℕ) (c : Channel) (t : Telegram) (p b : List ℕ) → NotData t → bufferedBy limit c t p b ≡ b
+unwritten limit c t p b n = rw (received-other limit (c .receiver) p (length b) t n) (buffered-unused (c .receiver) NoData p b refl)
 
 -- ---- one half's part is that half's alone
 

@@ -14,7 +14,6 @@ use channel::say;
 use receiver::Receipt;
 use sender::Hearing;
 use telegram::kinds::Parameters;
-use telegram::kinds::Sorted;
 use telegram::kinds::Telegram;
 use telegram::kinds::bad_block;
 
@@ -61,12 +60,11 @@ fn answered(channel: Channel, answer: Answer) -> Answered
 }
 
 // A sorted telegram arrives, with the bytes behind its first and the lent buffer.
-pub fn arrive(channel: Channel, telegram: Sorted, payload: &[u8], buffer: &mut [u8]) -> Answered
-    ensures { λ r. ⌜ r ≡ arrived longest channel (telegram .kind) (now (payload .entry)) (length (now (buffer .entry))) ⌝ }
-    ensures { λ r. ⌜ now (buffer .exit) ≡ bufferedBy longest channel (telegram .kind) (now (payload .entry)) (now (buffer .entry)) ⌝ }
+pub fn arrive(channel: Channel, telegram: Telegram, payload: &[u8], buffer: &mut [u8]) -> Answered
+    ensures { λ r. ⌜ r ≡ arrived longest channel telegram (now (payload .entry)) (length (now (buffer .entry))) ⌝ }
+    ensures { λ r. ⌜ now (buffer .exit) ≡ bufferedBy longest channel telegram (now (payload .entry)) (now (buffer .entry)) ⌝ }
 {
-    let kind = telegram.kind;
-    match kind {
+    match telegram {
         Telegram::Data {
             asks: _,
             last: _,
@@ -86,9 +84,9 @@ pub fn arrive(channel: Channel, telegram: Sorted, payload: &[u8], buffer: &mut [
 }
 
 // Data arrives.
-fn on_data(mut channel: Channel, telegram: Sorted, payload: &[u8], buffer: &mut [u8]) -> Answered
-    ensures { λ r. ⌜ r ≡ onData longest channel (telegram .kind) (now (payload .entry)) (length (now (buffer .entry))) ⌝ }
-    ensures { λ r. ⌜ now (buffer .exit) ≡ bufferedBy longest channel (telegram .kind) (now (payload .entry)) (now (buffer .entry)) ⌝ }
+fn on_data(mut channel: Channel, telegram: Telegram, payload: &[u8], buffer: &mut [u8]) -> Answered
+    ensures { λ r. ⌜ r ≡ onData longest channel telegram (now (payload .entry)) (length (now (buffer .entry))) ⌝ }
+    ensures { λ r. ⌜ now (buffer .exit) ≡ bufferedBy longest channel telegram (now (payload .entry)) (now (buffer .entry)) ⌝ }
 {
     let receiver = channel.receiver;
     let r = receiver.receive(telegram, payload, buffer);
@@ -99,8 +97,8 @@ fn on_data(mut channel: Channel, telegram: Sorted, payload: &[u8], buffer: &mut 
 }
 
 // An Ack arrives.
-fn on_ack(mut channel: Channel, telegram: Sorted) -> Answered
-    ensures { λ r. ⌜ r ≡ onAck channel (telegram .kind) ⌝ }
+fn on_ack(mut channel: Channel, telegram: Telegram) -> Answered
+    ensures { λ r. ⌜ r ≡ onAck channel telegram ⌝ }
 {
     let sender = channel.sender;
     let parameters = channel.parameters;

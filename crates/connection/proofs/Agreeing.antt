@@ -93,6 +93,7 @@ module _ (c : Connection) (agreeing′ : c .phase ≡ 2) where
         → arrived limit c id (0xA1 ∷ b ∷ t1 ∷ t2 ∷ t3 ∷ t4 ∷ []) room
         ≡ record {
           told = plainly Good 0;
+          padded = false;
           connection =
               record {
                 phase = 3;
@@ -138,48 +139,48 @@ module _ (c : Connection) (agreeing′ : c .phase ≡ 2) where
         rw (agreeing′, eq-eqb _ _ heard, a, ne-eqb b 0 (λ z. omega arith), le-ltb 15 b high, tenths-are (c .settings .t1) s, tenths-are t3 t)
 
     -- "A reply before its request was ever handed over gives 4", whatever stands in it
-    pub arrived-accept-early : c .attempt .asked ≡ false → arrived limit c id (0xA1 ∷ b ∷ t1 ∷ t2 ∷ t3 ∷ t4 ∷ []) room ≡ record { told = plainly NotDue 4; connection = c }
+    pub arrived-accept-early : c .attempt .asked ≡ false → arrived limit c id (0xA1 ∷ b ∷ t1 ∷ t2 ∷ t3 ∷ t4 ∷ []) room ≡ record { told = plainly NotDue 4; padded = false; connection = c }
     unfolding arrived hears listensOn kindOf onAgreeing onAccept
     arrived-accept-early a = rw (agreeing′, eq-eqb _ _ heard, a)
 
     -- row 2, "A1 block size 0 or over 15": nothing changes
-    pub arrived-accept-none : b ≡ 0 → c .attempt .asked ≡ true → arrived limit c id (0xA1 ∷ b ∷ t1 ∷ t2 ∷ t3 ∷ t4 ∷ []) room ≡ record { told = plainly BlockSize 2; connection = c }
+    pub arrived-accept-none : b ≡ 0 → c .attempt .asked ≡ true → arrived limit c id (0xA1 ∷ b ∷ t1 ∷ t2 ∷ t3 ∷ t4 ∷ []) room ≡ record { told = plainly BlockSize 2; padded = false; connection = c }
     unfolding arrived hears listensOn kindOf onAgreeing onAccept badBlock
     arrived-accept-none z a = rw (agreeing′, eq-eqb _ _ heard, a, z)
 
-    pub arrived-accept-over : 15 < b → c .attempt .asked ≡ true → arrived limit c id (0xA1 ∷ b ∷ t1 ∷ t2 ∷ t3 ∷ t4 ∷ []) room ≡ record { told = plainly BlockSize 2; connection = c }
+    pub arrived-accept-over : 15 < b → c .attempt .asked ≡ true → arrived limit c id (0xA1 ∷ b ∷ t1 ∷ t2 ∷ t3 ∷ t4 ∷ []) room ≡ record { told = plainly BlockSize 2; padded = false; connection = c }
     unfolding arrived hears listensOn kindOf onAgreeing onAccept badBlock
     arrived-accept-over o a = rw (agreeing′, eq-eqb _ _ heard, a, ne-eqb b 0 (λ z. omega arith), lt-ltb 15 b o)
 
   module _ (limit id room : ℕ) (heard : id ≡ c .end .receive) where
     -- "While A1 is awaited, only A1 and A8 are due kinds": "Disconnect: closed, one A8 due", asked or not
-    pub arrived-agreeing-disconnect : arrived limit c id (0xA8 ∷ []) room ≡ record { told = plainly Disconnected 0; connection = atRest true (c .end .transmit) }
+    pub arrived-agreeing-disconnect : arrived limit c id (0xA8 ∷ []) room ≡ record { told = plainly Disconnected 0; padded = false; connection = atRest true (c .end .transmit) }
     unfolding arrived hears listensOn kindOf onAgreeing
     arrived-agreeing-disconnect = rw (agreeing′, eq-eqb _ _ heard)
 
     -- so a test, a break and an A0 give 4
-    pub arrived-agreeing-test : arrived limit c id (0xA3 ∷ []) room ≡ record { told = plainly NotDue 4; connection = c }
+    pub arrived-agreeing-test : arrived limit c id (0xA3 ∷ []) room ≡ record { told = plainly NotDue 4; padded = false; connection = c }
     unfolding arrived hears listensOn kindOf onAgreeing
     arrived-agreeing-test = rw (agreeing′, eq-eqb _ _ heard)
 
-    pub arrived-agreeing-break : arrived limit c id (0xA4 ∷ []) room ≡ record { told = plainly NotDue 4; connection = c }
+    pub arrived-agreeing-break : arrived limit c id (0xA4 ∷ []) room ≡ record { told = plainly NotDue 4; padded = false; connection = c }
     unfolding arrived hears listensOn kindOf onAgreeing
     arrived-agreeing-break = rw (agreeing′, eq-eqb _ _ heard)
 
-    pub arrived-agreeing-setup : (b t1 t2 t3 t4 : ℕ) → arrived limit c id (0xA0 ∷ b ∷ t1 ∷ t2 ∷ t3 ∷ t4 ∷ []) room ≡ record { told = plainly NotDue 4; connection = c }
+    pub arrived-agreeing-setup : (b t1 t2 t3 t4 : ℕ) → arrived limit c id (0xA0 ∷ b ∷ t1 ∷ t2 ∷ t3 ∷ t4 ∷ []) room ≡ record { told = plainly NotDue 4; padded = false; connection = c }
     unfolding arrived hears listensOn kindOf onAgreeing
     arrived-agreeing-setup b t1 t2 t3 t4 = rw (agreeing′, eq-eqb _ _ heard)
 
     -- and a ready Ack, and data of two bytes with AR and EOM, both of number 0
-    pub arrived-agreeing-ack : arrived limit c id (0xB0 ∷ []) room ≡ record { told = plainly NotDue 4; connection = c }
+    pub arrived-agreeing-ack : arrived limit c id (0xB0 ∷ []) room ≡ record { told = plainly NotDue 4; padded = false; connection = c }
     unfolding arrived hears listensOn kindOf onAgreeing
     arrived-agreeing-ack = rw (agreeing′, eq-eqb _ _ heard)
 
-    pub arrived-agreeing-data : (x : ℕ) → arrived limit c id (0x10 ∷ x ∷ []) room ≡ record { told = plainly NotDue 4; connection = c }
+    pub arrived-agreeing-data : (x : ℕ) → arrived limit c id (0x10 ∷ x ∷ []) room ≡ record { told = plainly NotDue 4; padded = false; connection = c }
     unfolding arrived hears listensOn kindOf onAgreeing
     arrived-agreeing-data x = rw (agreeing′, eq-eqb _ _ heard)
 
     -- what is badly formed gives 1: an A2, an A1 of a byte
-    pub arrived-agreeing-malformed : (arrived limit c id (0xA2 ∷ []) room ≡ record { told = plainly Malformed 1; connection = c }) × (arrived limit c id (0xA1 ∷ []) room ≡ record { told = plainly Malformed 1; connection = c })
+    pub arrived-agreeing-malformed : (arrived limit c id (0xA2 ∷ []) room ≡ record { told = plainly Malformed 1; padded = false; connection = c }) × (arrived limit c id (0xA1 ∷ []) room ≡ record { told = plainly Malformed 1; padded = false; connection = c })
     unfolding arrived hears listensOn kindOf onAgreeing
     arrived-agreeing-malformed = (rw (agreeing′, eq-eqb _ _ heard), rw (agreeing′, eq-eqb _ _ heard))

@@ -44,6 +44,7 @@ module _ (c : Connection) (open′ : c .phase ≡ 3) where
         → arrived limit c id (b ∷ p) room
         ≡ record {
           told = record { answer = ByChannel (r .answer); said = record { number = said (r .answer) .number; done = said (r .answer) .done; opcode = 0 } };
+          padded = sorted (b ∷ p) .padded;
           connection = holding c (r .channel);
         })
     unfolding arrived hears listensOn onOpen arrivedAt courseOf settled
@@ -53,7 +54,7 @@ module _ (c : Connection) (open′ : c .phase ≡ 3) where
 
     -- 8: "record closed, nothing due"
     pub arrived-used-up : (room : ℕ) → channelArrived limit (c .end .channel) (sorted (b ∷ p) .kind) p room .answer ≡ UsedUp
-        → arrived limit c id (b ∷ p) room ≡ record { told = plainly UsedUp 8; connection = atRest false 0 }
+        → arrived limit c id (b ∷ p) room ≡ record { told = plainly UsedUp 8; padded = sorted (b ∷ p) .padded; connection = atRest false 0 }
     unfolding arrived hears listensOn onOpen arrivedAt courseOf settled
     arrived-used-up room e = rw (open′, eq-eqb _ _ heard, e)
 
@@ -66,7 +67,7 @@ module _ (c : Connection) (open′ : c .phase ≡ 3) where
 
   -- "Disconnect: closed, one A8 due", on the transmit ID
   pub arrived-disconnect : (limit id room : ℕ) → id ≡ c .end .receive
-      → arrived limit c id (0xA8 ∷ []) room ≡ record { told = plainly Disconnected 0; connection = atRest true (c .end .transmit) }
+      → arrived limit c id (0xA8 ∷ []) room ≡ record { told = plainly Disconnected 0; padded = false; connection = atRest true (c .end .transmit) }
   unfolding arrived hears listensOn onOpen arrivedAt channelArrived answered kindOf courseOf settled
   arrived-disconnect limit id room heard = rw (open′, eq-eqb _ _ heard)
 

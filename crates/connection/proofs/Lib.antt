@@ -4,3 +4,4 @@ pub mod Agreeing
 pub mod Waiting
 pub mod Ends
 pub mod Adding
+pub mod Padding

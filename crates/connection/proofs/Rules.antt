@@ -78,7 +78,7 @@ module _ (c : Connection) (closed′ : c .phase ≡ 0) where
   hears-closed id = rw closed′
 
   -- "any frame, send, take or close on a closed record" gives 4, and nothing changes
-  pub arrived-closed : (limit id : ℕ) (s : List ℕ) (room : ℕ) → arrived limit c id s room ≡ record { told = plainly NotDue 4; connection = c }
+  pub arrived-closed : (limit id : ℕ) (s : List ℕ) (room : ℕ) → arrived limit c id s room ≡ record { told = plainly NotDue 4; padded = false; connection = c }
   unfolding arrived
   arrived-closed limit id s room = rw closed′
 
@@ -154,13 +154,13 @@ opening-out-of-range c s p a = rw (p, a)
 
 -- "The ID asked by 3 is 0x200 + unit until D0"
 pub arrived-other-id-1 : (limit : ℕ) (c : Connection) (id : ℕ) (s : List ℕ) (room : ℕ) → c .phase ≡ 1 → id ≢ 0x200 + c .settings .unit
-    → arrived limit c id s room ≡ record { told = record { answer = OtherId; said = record { number = 3; done = false; opcode = 0 } }; connection = c }
+    → arrived limit c id s room ≡ record { told = record { answer = OtherId; said = record { number = 3; done = false; opcode = 0 } }; padded = false; connection = c }
 unfolding arrived hears listensOn
 arrived-other-id-1 limit c id s room p other = rw (p, ne-eqb id (0x200 + c .settings .unit) other)
 
 -- "then our receive ID"
 pub arrived-other-id : (limit : ℕ) (c : Connection) (id : ℕ) (s : List ℕ) (room : ℕ) → 2 ≤ c .phase → id ≢ c .end .receive
-    → arrived limit c id s room ≡ record { told = record { answer = OtherId; said = record { number = 3; done = false; opcode = 0 } }; connection = c }
+    → arrived limit c id s room ≡ record { told = record { answer = OtherId; said = record { number = 3; done = false; opcode = 0 } }; padded = false; connection = c }
 unfolding arrived hears listensOn
 arrived-other-id limit c id s room p other =
     rw (ne-eqb (c .phase) 0 (λ e. omega arith), ne-eqb (c .phase) 1 (λ e. omega arith), ne-eqb id (c .end .receive) other)
@@ -205,6 +205,7 @@ module _ (c : Connection) (requesting′ : c .phase ≡ 1) where
         → arrived limit c id (0x00 ∷ 0xD0 ∷ low ∷ high ∷ tlow ∷ thigh ∷ 0x01 ∷ []) room
         ≡ record {
           told = plainly Good 0;
+          padded = false;
           connection =
               record {
                 phase = 2;
@@ -220,7 +221,7 @@ module _ (c : Connection) (requesting′ : c .phase ≡ 1) where
 
     -- "A reply before its request was ever handed over gives 4"
     pub arrived-positive-early : (low high tlow thigh : ℕ) → high < 8 → low + 256 * high ≡ c .settings .receive → thigh < 8 → c .attempt .asked ≡ false
-        → arrived limit c id (0x00 ∷ 0xD0 ∷ low ∷ high ∷ tlow ∷ thigh ∷ 0x01 ∷ []) room ≡ record { told = plainly NotDue 4; connection = c }
+        → arrived limit c id (0x00 ∷ 0xD0 ∷ low ∷ high ∷ tlow ∷ thigh ∷ 0x01 ∷ []) room ≡ record { told = plainly NotDue 4; padded = false; connection = c }
     unfolding arrived hears listensOn replyRead onReply
     arrived-positive-early low high tlow thigh h own t a =
         rw (requesting′, eq-eqb _ _ heard, lt-ltb _ _ h, eq-eqb _ _ own, lt-ltb _ _ t, a)
@@ -228,27 +229,27 @@ module _ (c : Connection) (requesting′ : c .phase ≡ 1) where
     -- "D6 .., D7 .., D8 .. end the opening at once; of these only length, byte 0 and opcode are checked": 11 with that opcode, "record closed, nothing due"
     pub arrived-refused : (opcode x y z w v : ℕ) → (opcode ≡ 0xD6) ⊎ ((opcode ≡ 0xD7) ⊎ (opcode ≡ 0xD8)) → c .attempt .asked ≡ true
         → arrived limit c id (0x00 ∷ opcode ∷ x ∷ y ∷ z ∷ w ∷ v ∷ []) room
-        ≡ record { told = record { answer = Refused opcode; said = record { number = 11; done = false; opcode = opcode } }; connection = atRest false 0 }
+        ≡ record { told = record { answer = Refused opcode; said = record { number = 11; done = false; opcode = opcode } }; padded = false; connection = atRest false 0 }
     unfolding arrived hears listensOn replyRead onReply
     arrived-refused opcode x y z w v (inl e) a = rw (requesting′, eq-eqb _ _ heard, e, a)
     arrived-refused opcode x y z w v (inr (inl e)) a = rw (requesting′, eq-eqb _ _ heard, e, a)
     arrived-refused opcode x y z w v (inr (inr e)) a = rw (requesting′, eq-eqb _ _ heard, e, a)
 
     pub arrived-refused-early : (opcode x y z w v : ℕ) → (opcode ≡ 0xD6) ⊎ ((opcode ≡ 0xD7) ⊎ (opcode ≡ 0xD8)) → c .attempt .asked ≡ false
-        → arrived limit c id (0x00 ∷ opcode ∷ x ∷ y ∷ z ∷ w ∷ v ∷ []) room ≡ record { told = plainly NotDue 4; connection = c }
+        → arrived limit c id (0x00 ∷ opcode ∷ x ∷ y ∷ z ∷ w ∷ v ∷ []) room ≡ record { told = plainly NotDue 4; padded = false; connection = c }
     unfolding arrived hears listensOn replyRead onReply
     arrived-refused-early opcode x y z w v (inl e) a = rw (requesting′, eq-eqb _ _ heard, e, a)
     arrived-refused-early opcode x y z w v (inr (inl e)) a = rw (requesting′, eq-eqb _ _ heard, e, a)
     arrived-refused-early opcode x y z w v (inr (inr e)) a = rw (requesting′, eq-eqb _ _ heard, e, a)
 
     -- "All else from that ID is badly formed": what has not seven bytes gives 1, asked or not
-    pub arrived-other-length : (s : List ℕ) → length s ≢ 7 → arrived limit c id s room ≡ record { told = plainly Malformed 1; connection = c }
+    pub arrived-other-length : (s : List ℕ) → length s ≢ 7 → arrived limit c id s room ≡ record { told = plainly Malformed 1; padded = false; connection = c }
     unfolding arrived hears listensOn replyRead onReply
     arrived-other-length s other = rw (requesting′, eq-eqb _ _ heard, ne-eqb (length s) 7 other)
 
     -- and a positive reply that gives another receive ID back
     pub arrived-other-back : (low high tlow thigh : ℕ) → low + 256 * high ≢ c .settings .receive
-        → arrived limit c id (0x00 ∷ 0xD0 ∷ low ∷ high ∷ tlow ∷ thigh ∷ 0x01 ∷ []) room ≡ record { told = plainly Malformed 1; connection = c }
+        → arrived limit c id (0x00 ∷ 0xD0 ∷ low ∷ high ∷ tlow ∷ thigh ∷ 0x01 ∷ []) room ≡ record { told = plainly Malformed 1; padded = false; connection = c }
     unfolding arrived hears listensOn replyRead onReply
     arrived-other-back low high tlow thigh other = rw (requesting′, eq-eqb _ _ heard, ne-eqb (low + 256 * high) (c .settings .receive) other, and-off′ (clear high) false refl)
 

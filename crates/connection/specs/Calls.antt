@@ -42,9 +42,9 @@ use Rattle.connection.specs.Record.{isClosed, isRequesting, isAgreeing, 
 abbrev pub gives : ChannelAnswer → Connection → Answered
 gives a c = record { told = told (Channel a); connection = c }
 
--- the same for a frame that arrives
-abbrev pub brings : ChannelAnswer → Connection → Arrived
-brings a c = record { told = told (Channel a); connection = c }
+-- the answer to a frame that arrives "carries that mark on" (02, 4): whether its telegram is padded
+abbrev pub marked : (padded : Bool) → Answered → Arrived
+marked p r = record { told = r .told; padded = p; connection = r .connection }
 
 -- 0 with a frame handed over
 abbrev pub handOver : Frame → Connection → Due
@@ -70,32 +70,32 @@ opening c s =
 -- ---- a frame arrives
 
 -- while the D0 is awaited: 1, then 4 before the C0 was ever handed over; a refusal closes with nothing due
-unfoldable pub onReply : Connection → Reply → Arrived
-onReply c NoReply = brings Malformed c
+unfoldable pub onReply : Connection → Reply → Answered
+onReply c NoReply = gives Malformed c
 onReply c (RefusedBy opcode) =
-    if not (c .attempt .asked) then brings NotDue c
+    if not (c .attempt .asked) then gives NotDue c
     else record { told = told (Refused opcode); connection = closedRecord }
 onReply c (Positive transmit) =
-    if not (c .attempt .asked) then brings NotDue c
-    else brings Good (agreeing c transmit)
+    if not (c .attempt .asked) then gives NotDue c
+    else gives Good (agreeing c transmit)
 
 -- the A1 that is awaited: 4 before the A0 was ever handed over, then 2 for its block size byte
-unfoldable pub onAccept : Connection → Fields → Arrived
+unfoldable pub onAccept : Connection → Fields → Answered
 onAccept c p =
-    if not (c .attempt .asked) then brings NotDue c
-    else if badBlock (p .block) then brings BlockSize c
-    else brings Good (opened c p)
+    if not (c .attempt .asked) then gives NotDue c
+    else if badBlock (p .block) then gives BlockSize c
+    else gives Good (opened c p)
 
 -- while the A1 is awaited only A1 and A8 are due kinds: 1, then 4; a disconnect leaves one A8 due
-unfoldable pub onAgreeing : Connection → Telegram → Arrived
+unfoldable pub onAgreeing : Connection → Telegram → Answered
 onAgreeing c (Accept p) = onAccept c p
-onAgreeing c Disconnect = brings Disconnected (leavingOn (c .end .transmit))
-onAgreeing c NoTelegram = brings Malformed c
-onAgreeing c (Data asks last number) = brings NotDue c
-onAgreeing c (Ack ready number) = brings NotDue c
-onAgreeing c Test = brings NotDue c
-onAgreeing c Break = brings NotDue c
-onAgreeing c (Setup p) = brings NotDue c
+onAgreeing c Disconnect = gives Disconnected (leavingOn (c .end .transmit))
+onAgreeing c NoTelegram = gives Malformed c
+onAgreeing c (Data asks last number) = gives NotDue c
+onAgreeing c (Ack ready number) = gives NotDue c
+onAgreeing c Test = gives NotDue c
+onAgreeing c Break = gives NotDue c
+onAgreeing c (Setup p) = gives NotDue c
 
 -- what an answer of the open end leaves: the record goes on, or is closed with nothing or with one A8 due
 unfoldable pub settled : Connection → Course → OpenEnd → Connection
@@ -104,25 +104,25 @@ settled c GivenUp e = closedRecord
 settled c Leaves e = leavingOn (c .end .transmit)
 
 -- on an open connection the end answers
-unfoldable pub onOpen : (limit : ℕ) → Connection → (s : List ℕ) → (room : ℕ) → Arrived
-onOpen limit c s room =
-    (let r = arrivedAt limit (c .end) s room in
-    brings (r .answer) (settled c (courseOf (r .answer)) (r .end)))
+unfoldable pub onOpen : (limit : ℕ) → Connection → Telegram → (s : List ℕ) → (room : ℕ) → Answered
+onOpen limit c t s room =
+    (let r = arrivedAt limit (c .end) t s room in
+    gives (r .answer) (settled c (courseOf (r .answer)) (r .end)))
 
--- a frame with the bytes s, lent a buffer of room bytes: 4 if closed, then 3, then by the phase
+-- a frame with the bytes s, lent a buffer of room bytes: 4 if closed, then 3, then by the phase; what is sorted is answered with its mark
 unfoldable pub arrived : (limit : ℕ) → Connection → (id : ℕ) → (s : List ℕ) → (room : ℕ) → Arrived
 arrived limit c id s room =
-    if isClosed c then brings NotDue c
-    else if not (hears c id) then record { told = told OtherId; connection = c }
-    else if isRequesting c then onReply c (replyRead s (c .settings .receive))
-    else if isAgreeing c then onAgreeing c (sorted s .kind)
-    else onOpen limit c s room
+    if isClosed c then marked false (gives NotDue c)
+    else if not (hears c id) then marked false (record { told = told OtherId; connection = c })
+    else if isRequesting c then marked false (onReply c (replyRead s (c .settings .receive)))
+    else if isAgreeing c then marked (sorted s .padded) (onAgreeing c (sorted s .kind))
+    else marked (sorted s .padded) (onOpen limit c (sorted s .kind) s room)
 
 -- the lent buffer after it: only an open channel's data on our receive ID is written
 unfoldable pub buffered : (limit : ℕ) → Connection → (id : ℕ) → (s b : List ℕ) → List ℕ
 buffered limit c id s b =
     if isClosed c || not (hears c id) || isRequesting c || isAgreeing c then b
-    else bufferedAt limit (c .end) s b
+    else bufferedAt limit (c .end) (sorted s .kind) s b
 
 -- ---- time passes
 

@@ -9,7 +9,7 @@ ghost use Rattle.telegram.specs.Cutting.{longest};
 ghost use Rattle.opening.specs.declared.Reply.the-variants.{Positive, Refused as RefusedBy};
 ghost use Rattle.open_end.specs.OpenEnd.{bufferedAt};
 ghost use Rattle.connection.specs.Record.{closedRecord, leavingOn, requesting, agreeing, opened, hears, isOpen};
-ghost use Rattle.connection.specs.Calls.{gives, brings, handOver, handNothing, shows, opening, onReply, onAccept, onAgreeing, settled, onOpen, arrived, buffered, attemptElapsed, openElapsed, elapsed, closedDue, requestDue, openDue, dueOf, openSent, sentBy, openTaken, takenBy, takes, looked, closed};
+ghost use Rattle.connection.specs.Calls.{gives, marked, handOver, handNothing, shows, opening, onReply, onAccept, onAgreeing, settled, onOpen, arrived, buffered, attemptElapsed, openElapsed, elapsed, closedDue, requestDue, openDue, dueOf, openSent, sentBy, openTaken, takenBy, takes, looked, closed};
 use crate::agreed::agree;
 use crate::agreed::own_fields;
 use crate::attempt::Attempt;
@@ -69,9 +69,11 @@ pub struct Answered {
     pub connection: Connection,
 }
 
-// What a frame that arrives tells, and the record that it leaves.
+// What a frame that arrives tells, whether its telegram is padded, and the record that it leaves. The mark is false with the
+// numbers 1 and 3, and with a closed record's 4.
 pub struct Arrived {
     pub told: Told,
+    pub padded: bool,
     pub connection: Connection,
 }
 
@@ -97,6 +99,21 @@ pub struct Taken<'a> {
     pub flags: u16,
     pub connection: Connection,
     pub message: &'a [u8],
+}
+
+impl Answered {
+    // The answer to a frame that arrives, with its telegram's mark.
+    fn marked(self, padded: bool) -> Arrived
+        ensures { λ r. ⌜ r ≡ marked padded self ⌝ }
+    {
+        let told = self.told;
+        let connection = self.connection;
+        Arrived {
+            told,
+            padded,
+            connection,
+        }
+    }
 }
 
 impl Connection {
@@ -141,16 +158,6 @@ impl Connection {
         ensures { λ r. ⌜ r ≡ gives answer self ⌝ }
     {
         Answered {
-            told: tell(Answer::Channel(answer)),
-            connection: self,
-        }
-    }
-
-    // The same for a frame that arrives.
-    fn brings(self, answer: channel::Answer) -> Arrived
-        ensures { λ r. ⌜ r ≡ brings answer self ⌝ }
-    {
-        Arrived {
             told: tell(Answer::Channel(answer)),
             connection: self,
         }
@@ -226,39 +233,39 @@ impl Connection {
     }
 
     // A reply to the C0.
-    fn on_reply(self, reply: Reply) -> Arrived
+    fn on_reply(self, reply: Reply) -> Answered
         ensures { λ r. ⌜ r ≡ onReply self reply ⌝ }
     {
         match reply {
-            Reply::Malformed => self.brings(channel::Answer::Malformed),
+            Reply::Malformed => self.gives(channel::Answer::Malformed),
             Reply::Refused(opcode) => self.on_refusal(opcode),
             Reply::Positive(transmit) => self.on_positive(transmit),
         }
     }
 
     // A refusal, D6, D7 or D8.
-    fn on_refusal(self, opcode: u8) -> Arrived
+    fn on_refusal(self, opcode: u8) -> Answered
         ensures { λ r. ⌜ r ≡ onReply self (RefusedBy opcode) ⌝ }
     {
         let asked = self.attempt.asked;
         if !asked {
-            return self.brings(channel::Answer::NotDue);
+            return self.gives(channel::Answer::NotDue);
         }
-        Arrived {
+        Answered {
             told: tell(Answer::Refused(opcode)),
             connection: Connection::closed(),
         }
     }
 
     // The D0.
-    fn on_positive(self, transmit: u16) -> Arrived
+    fn on_positive(self, transmit: u16) -> Answered
         ensures { λ r. ⌜ r ≡ onReply self (Positive transmit) ⌝ }
     {
         let asked = self.attempt.asked;
         if !asked {
-            return self.brings(channel::Answer::NotDue);
+            return self.gives(channel::Answer::NotDue);
         }
-        self.agreeing(transmit).brings(channel::Answer::Good)
+        self.agreeing(transmit).gives(channel::Answer::Good)
     }
 
     // The D0 named the transmit ID: the A0 is due.
@@ -290,43 +297,43 @@ impl Connection {
     }
 
     // A telegram while the A1 is awaited.
-    fn on_agreeing(self, kind: Telegram) -> Arrived
-        ensures { λ r. ⌜ r ≡ onAgreeing self kind ⌝ }
+    fn on_agreeing(self, telegram: Telegram) -> Answered
+        ensures { λ r. ⌜ r ≡ onAgreeing self telegram ⌝ }
     {
-        match kind {
+        match telegram {
             Telegram::Accept(fields) => self.on_accept(fields),
-            Telegram::Disconnect => Connection::leaving_on(self.end.transmit).brings(
+            Telegram::Disconnect => Connection::leaving_on(self.end.transmit).gives(
                 channel::Answer::Disconnected,
             ),
-            Telegram::Malformed => self.brings(channel::Answer::Malformed),
+            Telegram::Malformed => self.gives(channel::Answer::Malformed),
             Telegram::Data {
                 asks: _,
                 last: _,
                 number: _,
-            } => self.brings(channel::Answer::NotDue),
+            } => self.gives(channel::Answer::NotDue),
             Telegram::Ack {
                 ready: _,
                 number: _,
-            } => self.brings(channel::Answer::NotDue),
-            Telegram::Test => self.brings(channel::Answer::NotDue),
-            Telegram::Break => self.brings(channel::Answer::NotDue),
-            Telegram::Setup(_) => self.brings(channel::Answer::NotDue),
+            } => self.gives(channel::Answer::NotDue),
+            Telegram::Test => self.gives(channel::Answer::NotDue),
+            Telegram::Break => self.gives(channel::Answer::NotDue),
+            Telegram::Setup(_) => self.gives(channel::Answer::NotDue),
         }
     }
 
     // The A1 that is awaited.
-    fn on_accept(self, fields: Fields) -> Arrived
+    fn on_accept(self, fields: Fields) -> Answered
         ensures { λ r. ⌜ r ≡ onAccept self fields ⌝ }
     {
         let asked = self.attempt.asked;
         let block = fields.block;
         if !asked {
-            return self.brings(channel::Answer::NotDue);
+            return self.gives(channel::Answer::NotDue);
         }
         if bad_block(block) {
-            return self.brings(channel::Answer::BlockSize);
+            return self.gives(channel::Answer::BlockSize);
         }
-        self.opened(fields).brings(channel::Answer::Good)
+        self.opened(fields).gives(channel::Answer::Good)
     }
 
     // Closes: one A8 is due if the transmit ID is known.
@@ -351,35 +358,35 @@ impl Connection {
         let phase = self.phase;
         let receive = self.settings.receive;
         if phase == CLOSED {
-            return self.brings(channel::Answer::NotDue);
+            return self.gives(channel::Answer::NotDue).marked(false);
         }
         if !self.hears(id) {
-            return Arrived {
+            return Answered {
                 told: tell(Answer::OtherId),
                 connection: self,
-            };
+            }.marked(false);
         }
         if phase == REQUESTING {
-            return self.on_reply(read_reply(bytes, receive));
+            return self.on_reply(read_reply(bytes, receive)).marked(false);
         }
+        let s = sort(bytes);
+        let kind = s.kind;
         if phase == AGREEING {
-            let s = sort(bytes);
-            let kind = s.kind;
-            return self.on_agreeing(kind);
+            return self.on_agreeing(kind).marked(s.padded);
         }
-        self.on_open(bytes, buffer)
+        self.on_open(kind, bytes, buffer).marked(s.padded)
     }
 
-    // A frame on an open connection: the end answers.
-    fn on_open(self, bytes: &[u8], buffer: &mut [u8]) -> Arrived
-        ensures { λ r. ⌜ r ≡ onOpen longest self (now (bytes .entry)) (length (now (buffer .entry))) ⌝ }
-        ensures { λ r. ⌜ now (buffer .exit) ≡ bufferedAt longest (self .end) (now (bytes .entry)) (now (buffer .entry)) ⌝ }
+    // A frame on an open connection, sorted: the end answers.
+    fn on_open(self, telegram: Telegram, bytes: &[u8], buffer: &mut [u8]) -> Answered
+        ensures { λ r. ⌜ r ≡ onOpen longest self telegram (now (bytes .entry)) (length (now (buffer .entry))) ⌝ }
+        ensures { λ r. ⌜ now (buffer .exit) ≡ bufferedAt longest (self .end) telegram (now (bytes .entry)) (now (buffer .entry)) ⌝ }
     {
         let end = self.end;
-        let r = end.arrive(bytes, buffer);
+        let r = end.arrive(telegram, bytes, buffer);
         let answer = r.answer;
         let next = r.end;
-        self.settled(course_of(answer), next).brings(answer)
+        self.settled(course_of(answer), next).gives(answer)
     }
 
     // What an answer of the open end leaves of the record.

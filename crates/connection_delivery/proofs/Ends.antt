@@ -5,10 +5,11 @@ use mathlib.Core.List.{List}
 use mathlib.Core.Path.{_≡_, refl}
 use borrow.Author.Tests.{eq-eqb, not-true}
 use Rattle.laws.proofs.Cases.{or-first, or-second}
+use Rattle.telegram.specs.Kinds.{sorted}
 use Rattle.open_end.specs.OpenEnd.{bufferedAt}
 use Rattle.connection.specs.declared.Connection.{Connection}
 use Rattle.connection.specs.Record.{isClosed, isRequesting, isAgreeing, isOpen, listensOn, hears}
-use Rattle.connection.specs.Calls.{openSent, sentBy, openTaken, takenBy, openElapsed, elapsed, openDue, dueOf, onOpen, arrived, buffered}
+use Rattle.connection.specs.Calls.{openSent, sentBy, openTaken, takenBy, openElapsed, elapsed, openDue, dueOf, marked, onOpen, arrived, buffered}
 
 module _ (c : Connection) (open′ : isOpen c ≡ true) where
   -- it is in none of the other phases
@@ -45,10 +46,10 @@ module _ (c : Connection) (open′ : isOpen c ≡ true) where
 
   -- a frame on its receive ID
   module _ (limit : ℕ) (s : List ℕ) where
-    pub arrived-open : (room : ℕ) → arrived limit c (c .end .receive) s room ≡ onOpen limit c s room
+    pub arrived-open : (room : ℕ) → arrived limit c (c .end .receive) s room ≡ marked (sorted s .padded) (onOpen limit c (sorted s .kind) s room)
     unfolding hears listensOn arrived
     arrived-open room = rw (phases .closed, phases .requesting, phases .agreeing, eq-eqb (c .end .receive) (c .end .receive) refl)
 
-    pub buffered-open : (b : List ℕ) → buffered limit c (c .end .receive) s b ≡ bufferedAt limit (c .end) s b
+    pub buffered-open : (b : List ℕ) → buffered limit c (c .end .receive) s b ≡ bufferedAt limit (c .end) (sorted s .kind) s b
     unfolding hears listensOn buffered
     buffered-open b = rw (phases .closed, phases .requesting, phases .agreeing, eq-eqb (c .end .receive) (c .end .receive) refl)

@@ -22,7 +22,7 @@ use Rattle.channel.specs.declared.Answer.the-variants.{Good}
 use Rattle.open_end.specs.declared.answers.Answer.the-variants.{Channel}
 use Rattle.connection.specs.declared.Connection.{Connection}
 use Rattle.connection.specs.Record.{listensOn, hears, closedRecord, withAttempt, requesting, agreeing, ownFields, opened}
-use Rattle.connection.specs.Calls.{gives, brings, handOver, opening, onReply, onAccept, onAgreeing, arrived, attemptOut, requestDue, dueOf}
+use Rattle.connection.specs.Calls.{gives, marked, handOver, opening, onReply, onAccept, onAgreeing, arrived, attemptOut, requestDue, dueOf}
 use Rattle.delivery.specs.System.{Try}
 use Rattle.delivery.specs.Claim.{Fresh}
 use Rattle.connection_delivery.specs.Opening.{exchange, openedPair}
@@ -77,7 +77,7 @@ module _ (limit : ℕ) (s : Settings) (a : allowed s ≡ true) (transmit : ℕ) 
   hands-c0 = refl
 
   d0-arrives : arrived limit (asked (requesting s)) (requestId + s .unit) (bytesOf (replyOf 0xD0 (s .receive) transmit)) room
-      ≡ brings Good (agreeing (requesting s) transmit)
+      ≡ marked false (gives Good (agreeing (requesting s) transmit))
   unfolding hears listensOn arrived onReply
   d0-arrives = rw (eq-eqb (requestId + s .unit) _ refl, positive-read (s .receive) transmit (allowed-parts s a .receive) h)
 
@@ -87,10 +87,10 @@ module _ (limit : ℕ) (s : Settings) (a : allowed s ≡ true) (transmit : ℕ) 
   hands-a0 = refl
 
   a1-arrives : arrived limit (asked (agreeing (requesting s) transmit)) (s .receive) (bytesOf (acceptOf f)) room
-      ≡ brings Good (opened (agreeing (requesting s) transmit) f)
+      ≡ marked false (gives Good (opened (agreeing (requesting s) transmit) f))
   unfolding hears listensOn arrived onAgreeing onAccept badBlock
   a1-arrives =
-      rw (eq-eqb (s .receive) _ refl, ap (λ x. x .kind) (accept-sorted f), ne-eqb (f .block) 0 (omega (arith, least)), le-ltb 15 (f .block) most)
+      rw (eq-eqb (s .receive) _ refl, ap (λ x. x .padded) (accept-sorted f), ap (λ x. x .kind) (accept-sorted f), ne-eqb (f .block) 0 (omega (arith, least)), le-ltb 15 (f .block) most)
 
   -- all five calls are answered 0, the C0 and the A0 are handed over, and the record is open
   pub opened-fresh : exchange limit s transmit f room

@@ -11,7 +11,7 @@ use borrow.Author.Tests.{eq-eqb, ne-eqb, lt-ltb, le-ltb, le-leb, lt-leb}
 use Rattle.laws.specs.If.{if_then_else_}
 use Rattle.laws.proofs.Branches.{not-on, not-off}
 use Rattle.laws.proofs.Cases.{by, by-not, Makes}
-use Rattle.telegram.specs.Kinds.{badBlock, fields, sorted}
+use Rattle.telegram.specs.Kinds.{badBlock, fields, fillable, sorted}
 use Rattle.opening.specs.Opening.{replyRead}
 use Rattle.opening.specs.declared.Reply.{Reply}
 use Rattle.telegram.specs.declared.kinds.Telegram.{Telegram}
@@ -26,31 +26,31 @@ use Rattle.telegram.specs.declared.cutting.Message.{Message}
 use Rattle.receiver.specs.declared.Receiver.{Receiver}
 use Rattle.receiver.specs.declared.Received.{Received}
 use Rattle.receiver.specs.declared.Cause.{Cause}
-use Rattle.receiver.specs.declared.Receipt.the-variants.{NoData}
 use Rattle.receiver.specs.Receiving.{isUsed, numbered, settled as receiverSettled, onData}
 use Rattle.receiver.proofs.Outcomes.{declaredBy, Brings, at-first, at-later, Breaks, too-short, declares-none, over-limit, too-many, no-end, early-end, Judged, breaks, short-first, short-later, goes-on, ends, InOrder, Outcome, out-of-place, untaken, thrown-away, in-order, outcome}
-use Rattle.receiver.proofs.Laws.{NotData, received-data, received-other, buffered-noted, buffered-unused}
+use Rattle.receiver.proofs.Laws.{NotData, received-data, buffered-noted}
 use Rattle.channel.specs.Opened.{withSender, withReceiver, restarted}
 use Rattle.channel.specs.declared.Channel.{Channel}
 use Rattle.channel.specs.declared.Answered.{Answered as ChannelAnswered}
 use Rattle.arrival.specs.Arrived.{dataAnswer, ackAnswer, arrived as channelArrived, bufferedBy}
-use Rattle.arrival.proofs.Arriving.{answers, ArrivalOutcome, data-came, ack-came, test-came, break-came, disconnect-came, setup-came, accept-undue, accept-bad, accept-came, malformed-came, arrival-outcome, arrived-data, arrived-ack}
+use Rattle.arrival.proofs.Arriving.{answers, ArrivalOutcome, data-came, ack-came, test-came, break-came, disconnect-came, setup-came, accept-undue, accept-bad, accept-came, malformed-came, arrival-outcome, arrived-data, arrived-ack, unwritten}
 use Rattle.open_end.specs.declared.answers.Said.{Said}
 use Rattle.open_end.specs.OpenEnd.{withChannel, courseOf, arrivedAt, bufferedAt}
 use Rattle.connection.specs.declared.Connection.{Connection}
+use Rattle.connection.specs.declared.Answered.{Answered}
 use Rattle.connection.specs.declared.Arrived.{Arrived}
 use Rattle.connection.specs.Record.{hears as listened}
-use Rattle.connection.specs.Calls.{brings, arrived, buffered, onReply, onAccept, onAgreeing, onOpen, settled}
+use Rattle.connection.specs.Calls.{gives, marked, arrived, buffered, onReply, onAccept, onAgreeing, onOpen, settled}
 use Rattle.connection_rows.specs.Tables.{plain, row, Table, always, _orElse_, toldBy}
 use Rattle.connection_rows.specs.Records.{isClosed, isRequesting, isAgreeing, isOpen, noneReceived, closedRecord, onChannel}
 use Rattle.connection_rows.specs.Rows.{numberedBy, atFirst, writtenAt, isData, isAck, numberIn, asksAck, isLast, isReady, otherId, outOfPlace, noMessage, isHolding, waitsUntaken, throwsAway, isJudged, shortLater, broken, shortFirst, askedForAck, thrownAway, receivingAfter, bufferAfter, arrivalTable, arriveSays}
-use Rattle.connection_rows.proofs.Bytes.{Only, telegram, by-kind, by-reply, data-bytes}
+use Rattle.connection_rows.proofs.Bytes.{Only, telegram, by-kind, by-reply, data-bytes, data-unpadded, padded-eight, setup-unpadded}
 use Rattle.connection_rows.proofs.Same.{other-same, tenths-same, smaller-same, ahead-same, acked-same, carried-same, copied-same}
 use Rattle.connection_rows.proofs.Tests.{unbroken, behind, other-phase}
 
 module _ (limit : ℕ) (c : Connection) (id : ℕ) (s b : List ℕ) where
   -- what the table tells
-  abbrev tabled : Said × (Connection × List ℕ)
+  abbrev tabled : Said × (Bool × Connection × List ℕ)
   tabled = toldBy (arrivalTable limit c id s b)
 
   -- the parts of an open connection
@@ -66,49 +66,57 @@ module _ (limit : ℕ) (c : Connection) (id : ℕ) (s b : List ℕ) where
   abbrev receiving : Receiver
   receiving = ch .receiver
 
-  -- what is said and left by an arrival with the buffer w then, by the channel's, and by what the halves make of data and of an Ack
-  abbrev tells : List ℕ → Arrived → Said × (Connection × List ℕ)
-  tells w r = (r .told .said, (r .connection, w))
+  -- the mark of these bytes, sorted as t
+  abbrev markOf : Telegram → Bool
+  markOf t = fillable t && eqb (length s) 8
 
-  abbrev passes : List ℕ → ChannelAnswered → Said × (Connection × List ℕ)
-  passes w r = tells w (brings (r .answer) (settled c (courseOf (r .answer)) (withChannel (c .end) (r .channel))))
+  -- what is said and left by an arrival with the buffer w then, by the channel's, and by what the halves make of data and of an Ack
+  abbrev tells : List ℕ → Arrived → Said × (Bool × Connection × List ℕ)
+  tells w r = (r .told .said, (r .padded, r .connection, w))
+
+  abbrev answers-told : List ℕ → Bool → Answered → Said × (Bool × Connection × List ℕ)
+  answers-told w p r = tells w (marked p r)
+
+  abbrev passes : List ℕ → Bool → ChannelAnswered → Said × (Bool × Connection × List ℕ)
+  passes w p r = tells w (marked p (gives (r .answer) (settled c (courseOf (r .answer)) (withChannel (c .end) (r .channel)))))
 
   abbrev written : List ℕ
   written = if atFirst c then writtenAt 0 (drop 3 s) b else writtenAt (receiving .at .fill) (drop 1 s) b
 
-  abbrev receives : Received → Said × (Connection × List ℕ)
-  receives r = passes (if isUsed (r .note) then written else b) (answers (dataAnswer (r .note)) (withReceiver ch (r .receiver)))
+  abbrev receives : Received → Said × (Bool × Connection × List ℕ)
+  receives r = passes (if isUsed (r .note) then written else b) false (answers (dataAnswer (r .note)) (withReceiver ch (r .receiver)))
 
-  abbrev hears : Heard → Said × (Connection × List ℕ)
-  hears h = passes b (answers (ackAnswer (h .note)) (withSender ch (h .sender)))
+  abbrev hears : Heard → Said × (Bool × Connection × List ℕ)
+  hears h = passes b (eqb (length s) 8) (answers (ackAnswer (h .note)) (withSender ch (h .sender)))
 
   -- by a reply, by a telegram while the A1 is awaited, and on an open connection
-  abbrev replies : List ℕ → Reply → Said × (Connection × List ℕ)
-  replies w t = tells w (onReply c t)
+  abbrev replies : List ℕ → Reply → Said × (Bool × Connection × List ℕ)
+  replies w t = tells w (marked false (onReply c t))
 
-  abbrev agrees : List ℕ → Telegram → Said × (Connection × List ℕ)
-  agrees w t = tells w (onAgreeing c t)
+  abbrev agrees : List ℕ → Telegram → Said × (Bool × Connection × List ℕ)
+  agrees w t = tells w (marked (markOf t) (onAgreeing c t))
 
-  abbrev opens : Telegram → Said × (Connection × List ℕ)
-  opens t = passes (bufferedBy limit ch t (drop 1 s) b) (channelArrived limit ch t (drop 1 s) (length b))
+  abbrev opens : Telegram → Said × (Bool × Connection × List ℕ)
+  opens t = passes (bufferedBy limit ch t (drop 1 s) b) (markOf t) (channelArrived limit ch t (drop 1 s) (length b))
 
   -- ---- the rows that data on an open connection meets
 
-  abbrev dataRows : Table (Connection × List ℕ)
+  abbrev dataRows : Table (Bool × Connection × List ℕ)
   dataRows =
-      row (outOfPlace c s) 12 (askedForAck c s, b)
-      orElse row (waitsUntaken c s) 5 (askedForAck c s, b)
-      orElse row (shortLater c s (length b)) 7 (c, b)
-      orElse row (broken limit c s) 9 (thrownAway c s, b)
-      orElse row (shortFirst c s (length b)) 7 (thrownAway c s, b)
-      orElse always (plain 0) (onChannel c (restarted (withReceiver ch (receivingAfter c s))), bufferAfter c s b)
+      row (outOfPlace c s) 12 (false, askedForAck c s, b)
+      orElse row (waitsUntaken c s) 5 (false, askedForAck c s, b)
+      orElse row (shortLater c s (length b)) 7 (false, c, b)
+      orElse row (broken limit c s) 9 (false, thrownAway c s, b)
+      orElse row (shortFirst c s (length b)) 7 (false, thrownAway c s, b)
+      orElse always (plain 0) (false, onChannel c (restarted (withReceiver ch (receivingAfter c s))), bufferAfter c s b)
 
   -- in order, bringing its message m to fill bytes
-  abbrev messageRows : Message → ℕ → Table (Connection × List ℕ)
+  abbrev messageRows : Message → ℕ → Table (Bool × Connection × List ℕ)
   messageRows m fill =
-      row (ltb (m .length) fill || not (isLast s) && leb (m .length) fill || isLast s && ltb fill (m .length)) 9 (thrownAway c s, b)
-      orElse row (ltb (length b) (m .length)) 7 (thrownAway c s, b)
+      row (ltb (m .length) fill || not (isLast s) && leb (m .length) fill || isLast s && ltb fill (m .length)) 9 (false, thrownAway c s, b)
+      orElse row (ltb (length b) (m .length)) 7 (false, thrownAway c s, b)
       orElse always (plain 0) (
+        false,
         onChannel c (restarted (withReceiver ch (if isLast s then numberedBy c s false noneReceived 0 m else numberedBy c s false m fill (receiving .complete)))),
         written,
       )
@@ -155,10 +163,10 @@ module _ (limit : ℕ) (c : Connection) (id : ℕ) (s b : List ℕ) where
       message-rows (at-later f held) = rw (placed, none-waits, is-judged, throws (o .not-discarding), f, length-drop 1 s, le-ltb _ _ held)
 
       -- what meets a message's rows, meets the data's
-      meets : {m : Message} {fill : ℕ} {v : Said × (Connection × List ℕ)} → Brings limit receiving (drop 1 s) (length b) m fill → v ≡ toldBy (messageRows m fill) → v ≡ toldBy dataRows
+      meets : {m : Message} {fill : ℕ} {v : Said × (Bool × Connection × List ℕ)} → Brings limit receiving (drop 1 s) (length b) m fill → v ≡ toldBy (messageRows m fill) → v ≡ toldBy dataRows
       meets g e = e ∙ message-rows g
 
-      broken-told : {x : Cause} → Breaks limit receiving (isLast s) (drop 1 s) (length b) x → _≡_ {A = Said × (Connection × List ℕ)} (plain 9, (thrownAway c s, b)) (toldBy dataRows)
+      broken-told : {x : Cause} → Breaks limit receiving (isLast s) (drop 1 s) (length b) x → _≡_ {A = Said × (Bool × Connection × List ℕ)} (plain 9, (false, thrownAway c s, b)) (toldBy dataRows)
       broken-told (too-short f short) = rw (placed, none-waits, is-judged, f, two-bytes d short)
       broken-told (declares-none f two z) = rw (placed, none-waits, is-judged, f, longer two, eq-eqb _ _ (rw declares at z))
       broken-told (over-limit f two some over) = rw (placed, none-waits, is-judged, f, longer two, declares-some some, lt-ltb _ _ (rw declares at over))
@@ -195,13 +203,13 @@ module _ (limit : ℕ) (c : Connection) (id : ℕ) (s b : List ℕ) where
   abbrev ends-there : Bool
   ends-there = acks && eqb (sending .acked + away) (framesOf (sending .length))
 
-  abbrev heardRows : Sender → Table (Connection × List ℕ)
+  abbrev heardRows : Sender → Table (Bool × Connection × List ℕ)
   heardRows x =
-      row (isOpen c && isAck s && (noMessage c || isHolding c || eqb away 0 && isReady s || ltb (sending .high - sending .acked) away)) 12 (c, b)
-      orElse row (isOpen c && isAck s && eqb away 0 && not (isReady s) && ltb (terms .repeats) (sending .count + 1)) 8 (closedRecord, b)
-      orElse always (record { number = 0; done = ends-there; opcode = 0 }) (onChannel c (restarted (withSender ch x)), b)
+      row (isOpen c && isAck s && (noMessage c || isHolding c || eqb away 0 && isReady s || ltb (sending .high - sending .acked) away)) 12 (eqb (length s) 8, c, b)
+      orElse row (isOpen c && isAck s && eqb away 0 && not (isReady s) && ltb (terms .repeats) (sending .count + 1)) 8 (eqb (length s) 8, closedRecord, b)
+      orElse always (record { number = 0; done = ends-there; opcode = 0 }) (eqb (length s) 8, onChannel c (restarted (withSender ch x)), b)
 
-  abbrev ackRows : Table (Connection × List ℕ)
+  abbrev ackRows : Table (Bool × Connection × List ℕ)
   ackRows =
       heardRows
       (if eqb away 0 then again sending (heldFor terms (isReady s)) (sending .gap)
@@ -252,10 +260,6 @@ module _ (limit : ℕ) (c : Connection) (id : ℕ) (s b : List ℕ) where
   Reads (Accept p) = Only s 6 × (p ≡ fields s)
   Reads Malformed = Only s 7
 
-  -- none but data is written
-  unwritten : (t : Telegram) → NotData t → bufferedBy limit ch t (drop 1 s) b ≡ b
-  unwritten t n = rw (received-other limit receiving (drop 1 s) (length b) t n) (buffered-unused receiving NoData (drop 1 s) b refl)
-
   -- row 2 asks for the block size byte
   block : {t : Bool} → badBlock (fields s .block) ≡ t → (eqb (getD s 1 0) 0 || ltb 15 (getD s 1 0)) ≡ t
   unfolding badBlock
@@ -268,30 +272,30 @@ module _ (limit : ℕ) (c : Connection) (id : ℕ) (s b : List ℕ) where
     ours = sym (other-same c id closed) ∙ same
 
     -- while the D0 is awaited
-    reply-told : isRequesting c ≡ true → isAgreeing c ≡ false → Makes (tells (buffered limit c id s b)) tabled (onReply c (replyRead s (c .settings .receive)))
+    reply-told : isRequesting c ≡ true → isAgreeing c ≡ false → replies (buffered limit c id s b) (replyRead s (c .settings .receive)) ≡ tabled
     unfolding buffered onReply
     reply-told req agr =
         rw (closed, same, ours, req, agr)
         (by-reply s (c .settings .receive) (Makes (replies _) _)
-        (λ r u p. rw (r, u, p) (by-not (Makes (tells _) _) (c .attempt .asked) (λ e. rw e) (λ e. rw e)))
-        (λ r q u p. rw (r, q, u, p) (by-not (Makes (tells _) _) (c .attempt .asked) (λ e. rw e) (λ e. rw e)))
+        (λ r u p m. rw (r, u, p, m) (by-not (Makes (answers-told _ false) _) (c .attempt .asked) (λ e. rw e) (λ e. rw e)))
+        (λ r q u p m. rw (r, q, u, p, m) (by-not (Makes (answers-told _ false) _) (c .attempt .asked) (λ e. rw e) (λ e. rw e)))
         (λ r q. rw (r, q)))
 
     -- while the A1 is awaited
-    agreeing-told : isRequesting c ≡ false → isAgreeing c ≡ true → Makes (tells (buffered limit c id s b)) tabled (onAgreeing c (sorted s .kind))
+    agreeing-told : isRequesting c ≡ false → isAgreeing c ≡ true → agrees (buffered limit c id s b) (sorted s .kind) ≡ tabled
     unfolding buffered onAgreeing onAccept
     agreeing-told req agr =
         rw (closed, same, ours, req, agr)
         (by-kind s (Makes (agrees _) _)
-        (λ k. rw (telegram k, k .accept, k .disconnect))
-        (λ k. rw (telegram k, k .accept, k .disconnect))
-        (λ k. rw (telegram k, k .accept, k .disconnect))
-        (λ k. rw (telegram k, k .accept, k .disconnect))
-        (λ k. rw (telegram k, k .accept, k .disconnect, k .setup))
-        (λ k. rw (telegram k, k .accept, k .disconnect))
-        (λ k. rw (telegram k, k .accept, k .disconnect, k .setup)
-        (by-not (Makes (tells _) _) (c .attempt .asked) (λ e. rw e) (λ e. rw e
-        (by (Makes (tells _) _) (badBlock (fields s .block)) (λ z. rw (block z)) (λ z. rw (block z, smaller-same (c .settings .block) (getD s 1 0), tenths-same (c .settings .t1), tenths-same (getD s 4 0)))))))
+        (λ k. rw (telegram k, k .accept, k .disconnect, data-unpadded s (k .data′)))
+        (λ k. rw (telegram k, k .accept, k .disconnect, padded-eight s (k .data′)))
+        (λ k. rw (telegram k, k .accept, k .disconnect, padded-eight s (k .data′)))
+        (λ k. rw (telegram k, k .accept, k .disconnect, padded-eight s (k .data′)))
+        (λ k. rw (telegram k, k .accept, k .disconnect, k .setup, padded-eight s (k .data′)))
+        (λ k. rw (telegram k, k .accept, k .disconnect, setup-unpadded s (k .setup)))
+        (λ k. rw (telegram k, k .accept, k .disconnect, k .setup, padded-eight s (k .data′))
+        (by-not (Makes (answers-told _ _) _) (c .attempt .asked) (λ e. rw e) (λ e. rw e
+        (by (Makes (answers-told _ _) _) (badBlock (fields s .block)) (λ z. rw (block z)) (λ z. rw (block z, smaller-same (c .settings .block) (getD s 1 0), tenths-same (c .settings .t1), tenths-same (getD s 4 0)))))))
         (λ k. rw (telegram k)))
 
     module _ (req : isRequesting c ≡ false) (agr : isAgreeing c ≡ false) where
@@ -300,7 +304,7 @@ module _ (limit : ℕ) (c : Connection) (id : ℕ) (s b : List ℕ) where
 
       data-told : Only s 0 → opens (Data (asksAck s) (isLast s) (numberIn s)) ≡ tabled
       data-told k =
-          let rows : toldBy dataRows ≡ tabled = rw (closed, same, req, agr, telegram k, k .data′, k .ack, k .test, k .accept, k .disconnect, k .setup, or-false) in
+          let rows : toldBy dataRows ≡ tabled = rw (closed, same, req, agr, telegram k, data-unpadded s (k .data′), k .data′, k .ack, k .test, k .accept, k .disconnect, k .setup, or-false) in
           let x = onData limit receiving (asksAck s) (isLast s) (numberIn s) (drop 1 s) (length b) in
           rw (
             arrived-data limit ch (drop 1 s) (length b) (asksAck s) (isLast s) (numberIn s),
@@ -313,38 +317,38 @@ module _ (limit : ℕ) (c : Connection) (id : ℕ) (s b : List ℕ) where
       ack-told : Only s 1 → opens (Ack (isReady s) (numberIn s)) ≡ tabled
       ack-told k =
           let rows : toldBy ackRows ≡ tabled =
-          rw (closed, same, req, agr, telegram k, k .data′, k .ack, k .test, k .break, k .accept, k .disconnect, k .setup, ahead-same c s, carried-same (sending .length) (sending .acked + away), acked-same sending s) in
+          rw (closed, same, req, agr, telegram k, padded-eight s (k .data′), k .data′, k .ack, k .test, k .break, k .accept, k .disconnect, k .setup, ahead-same c s, carried-same (sending .length) (sending .acked + away), acked-same sending s) in
           rw (
-            unwritten (Ack (isReady s) (numberIn s)) tt,
+            unwritten limit ch (Ack (isReady s) (numberIn s)) (drop 1 s) b tt,
             arrived-ack limit ch (drop 1 s) (length b) (isReady s) (numberIn s),
             heard-ack terms sending (isReady s) (numberIn s),
           )
           (heard-told open′ (k .ack) (ackCase terms sending (isReady s) (numberIn s)) ∙ rows)
 
-      came : {r : Received} {h : Heard} {t : Telegram} {x : ChannelAnswered} → ArrivalOutcome ch r h t x → Reads t → passes b x ≡ tabled
+      came : {r : Received} {h : Heard} {t : Telegram} {x : ChannelAnswered} → ArrivalOutcome ch r h t x → Reads t → passes b (markOf t) x ≡ tabled
       unfolding courseOf settled
       came data-came k = absurd k
       came ack-came k = absurd k
-      came test-came k = rw (closed, same, req, agr, telegram k, k .data′, k .ack, k .test, k .break, k .accept, k .disconnect, k .setup)
-      came break-came k = rw (closed, same, req, agr, telegram k, k .data′, k .ack, k .test, k .break, k .accept, k .disconnect, k .setup)
-      came disconnect-came k = rw (closed, same, req, agr, telegram k, k .data′, k .ack, k .accept, k .disconnect, k .setup)
-      came setup-came k = rw (closed, same, req, agr, telegram k, k .accept, k .setup)
-      came (accept-undue o) h = let k = h .0 in rw (closed, same, req, agr, telegram k, k .accept, k .setup, not-on _ o)
+      came test-came k = rw (closed, same, req, agr, telegram k, padded-eight s (k .data′), k .data′, k .ack, k .test, k .break, k .accept, k .disconnect, k .setup)
+      came break-came k = rw (closed, same, req, agr, telegram k, padded-eight s (k .data′), k .data′, k .ack, k .test, k .break, k .accept, k .disconnect, k .setup)
+      came disconnect-came k = rw (closed, same, req, agr, telegram k, padded-eight s (k .data′), k .data′, k .ack, k .accept, k .disconnect, k .setup)
+      came setup-came k = rw (closed, same, req, agr, telegram k, setup-unpadded s (k .setup), k .accept, k .setup)
+      came (accept-undue o) h = let k = h .0 in rw (closed, same, req, agr, telegram k, padded-eight s (k .data′), k .accept, k .setup, not-on _ o)
       came (accept-bad o e) h =
-          let k = h .0 in rw (closed, same, req, agr, telegram k, k .accept, k .setup, not-off _ o, block (rw (h .1) at e))
+          let k = h .0 in rw (closed, same, req, agr, telegram k, padded-eight s (k .data′), k .accept, k .setup, not-off _ o, block (rw (h .1) at e))
       came (accept-came o e) h =
           let k = h .0 in
-          rw (closed, same, req, agr, telegram k, k .data′, k .ack, k .test, k .break, k .accept, k .disconnect, k .setup, not-off _ o, block (rw (h .1) at e))
+          rw (closed, same, req, agr, telegram k, padded-eight s (k .data′), k .data′, k .ack, k .test, k .break, k .accept, k .disconnect, k .setup, not-off _ o, block (rw (h .1) at e))
       came malformed-came k = rw (closed, same, req, agr, telegram k)
 
       other-told : (t : Telegram) → NotData t → Reads t → opens t ≡ tabled
-      other-told t n k = rw (unwritten t n) (came (arrival-outcome limit ch (drop 1 s) (length b) t) k)
+      other-told t n k = rw (unwritten limit ch t (drop 1 s) b n) (came (arrival-outcome limit ch (drop 1 s) (length b) t) k)
 
-      buffered-open : buffered limit c id s b ≡ bufferedAt limit (c .end) s b
+      buffered-open : buffered limit c id s b ≡ bufferedAt limit (c .end) (sorted s .kind) s b
       unfolding buffered
       buffered-open = rw (closed, ours, req, agr)
 
-      open-told : tells (buffered limit c id s b) (onOpen limit c s (length b)) ≡ tabled
+      open-told : tells (buffered limit c id s b) (marked (sorted s .padded) (onOpen limit c (sorted s .kind) s (length b))) ≡ tabled
       unfolding bufferedAt onOpen arrivedAt
       open-told =
           rw buffered-open

@@ -1,13 +1,14 @@
 -- How bytes are sorted: a reply and a telegram go by the conditions of specs/Rows.antt, which shut one another out.
 use Prim.Native.Nat.{ℕ, _≤_}
-use mathlib.Core.Bool.{Bool, true, false, _&&_, _||_, true≢false}
+use native.Mathlib.Omega.{arith}
+use mathlib.Core.Bool.{Bool, true, false, _&&_, _||_, not, true≢false}
 use mathlib.Core.List.{List}
 use mathlib.Core.Path.{_≡_, refl, sym, ap, _∙_}
 use lib.ListN.{length, getD}
 use lib.Dec.{ltb, leb, eqb}
-use borrow.Author.Tests.{ltb-true, eqb-true, ne-eqb}
+use borrow.Author.Tests.{ltb-true, lt-leb, eqb-true, ne-eqb}
 use Rattle.laws.proofs.Branches.{and-off, and-off′}
-use Rattle.laws.proofs.Cases.{by, and-first, and-second}
+use Rattle.laws.proofs.Cases.{by, either, and-first, and-second}
 use Rattle.opening.specs.Opening.{idOf, replyRead}
 use Rattle.telegram.specs.Kinds.{fields, kindOf}
 use Rattle.opening.specs.declared.Reply.{Reply}
@@ -15,7 +16,7 @@ use Rattle.opening.specs.declared.Reply.the-variants.{Positive, Refused, Malfor
 use Rattle.telegram.specs.declared.kinds.Telegram.{Telegram}
 use Rattle.telegram.specs.declared.kinds.Telegram.the-variants.{Data, Ack, Test, Break, Disconnect, Setup, Accept, Malformed}
 use Rattle.connection_rows.proofs.Same.{data-same, asks-same, last-same, ack-same, ready-same, refusal-same}
-use Rattle.connection_rows.specs.Rows.{isData, asksAck, isLast, numberIn, isAck, isReady, isTest, isBreak, isDisconnect, isSetup, isAccept, isTelegram, isRefusal, isPositive}
+use Rattle.connection_rows.specs.Rows.{isData, asksAck, isLast, numberIn, isAck, isReady, isTest, isBreak, isDisconnect, isSetup, isAccept, isTelegram, isPadded, ownOrEight, isRefusal, isPositive}
 
 -- which of the seven kinds the bytes are
 pub record Kind (s : List ℕ) (d a t b x u p : Bool) : Type 0 where
@@ -44,14 +45,20 @@ apart f n m p q = ne-eqb n m (λ e. true≢false (sym p ∙ ap f e ∙ q))
 abbrev isAckByte : ℕ → Bool
 isAckByte b = leb 0x90 b && ltb b 0xA0 || leb 0xB0 b && ltb b 0xC0
 
+-- it lies above data's
+ack-above : (b : ℕ) → ltb b 0x40 ≡ true → isAckByte b ≡ false
+ack-above b e = let l = ltb-true b 0x40 e in rw (lt-leb 0x90 b (omega arith), lt-leb 0xB0 b (omega arith))
+
 module _ (s : List ℕ) where
   -- data is nothing else
   data-kind : isData s ≡ true → Only s 0
   unfolding isData isAck isTest isBreak isDisconnect isSetup isAccept
   data-kind d =
       let upper : ltb (getD s 0 0) 0x40 ≡ true = search (and-first, and-second) in
-      let two : ltb 1 (length s) ≡ true = search (and-first, and-second) in
-      let one = apart (ltb 1) (length s) 1 two refl in
+      let no-ack = ack-above (getD s 0 0) upper in
+      let a3 = apart (λ n. ltb n 0x40) (getD s 0 0) 0xA3 upper refl in
+      let a4 = apart (λ n. ltb n 0x40) (getD s 0 0) 0xA4 upper refl in
+      let a8 = apart (λ n. ltb n 0x40) (getD s 0 0) 0xA8 upper refl in
       let a0 = apart (λ n. ltb n 0x40) (getD s 0 0) 0xA0 upper refl in
       let a1 = apart (λ n. ltb n 0x40) (getD s 0 0) 0xA1 upper refl in
       search (and-off, and-off′)
@@ -60,24 +67,28 @@ module _ (s : List ℕ) where
   pub ack-kind : isAck s ≡ true → Only s 1
   unfolding isData isAck isTest isBreak isDisconnect isSetup isAccept
   ack-kind a =
-      let one = eqb-true (length s) 1 (search and-first) in
-      let lower : isAckByte (getD s 0 0) ≡ true = and-second (eqb (length s) 1) (isAckByte (getD s 0 0)) a in
-      let two : ltb 1 (length s) ≡ false = rw one in
-      let six : eqb (length s) 6 ≡ false = rw one in
+      let lower : isAckByte (getD s 0 0) ≡ true = and-second (ownOrEight 1 s) (isAckByte (getD s 0 0)) a in
+      let upper : ltb (getD s 0 0) 0x40 ≡ false = either (ltb (getD s 0 0) 0x40) (λ e. absurd (true≢false (sym lower ∙ ack-above (getD s 0 0) e))) (λ e. e) in
       let a3 = apart isAckByte (getD s 0 0) 0xA3 lower refl in
       let a4 = apart isAckByte (getD s 0 0) 0xA4 lower refl in
       let a8 = apart isAckByte (getD s 0 0) 0xA8 lower refl in
+      let a0 = apart isAckByte (getD s 0 0) 0xA0 lower refl in
+      let a1 = apart isAckByte (getD s 0 0) 0xA1 lower refl in
       search (and-off, and-off′)
 
   -- the others are told by their length and first byte
-  code-kind : (n x : ℕ) → (eqb (length s) n && eqb (getD s 0 0) x) ≡ true
-      → Kind s (ltb x 0x40 && ltb 1 n && ltb n 9) (eqb n 1 && isAckByte x) (eqb n 1 && eqb x 0xA3) (eqb n 1 && eqb x 0xA4)
-      (eqb n 1 && eqb x 0xA8) (eqb n 6 && eqb x 0xA0) (eqb n 6 && eqb x 0xA1)
+  code-kind : (n x : ℕ) → length s ≡ n → getD s 0 0 ≡ x
+      → Kind s (ltb x 0x40 && ltb 1 n && ltb n 9) ((eqb n 1 || eqb n 8) && isAckByte x) ((eqb n 1 || eqb n 8) && eqb x 0xA3) ((eqb n 1 || eqb n 8) && eqb x 0xA4)
+      ((eqb n 1 || eqb n 8) && eqb x 0xA8) (eqb n 6 && eqb x 0xA0) ((eqb n 6 || eqb n 8) && eqb x 0xA1)
   unfolding isData isAck isTest isBreak isDisconnect isSetup isAccept
-  code-kind n x h =
-      let l = eqb-true (length s) n (search and-first) in
-      let e = eqb-true (getD s 0 0) x (search (and-first, and-second)) in
-      record { data′ = rw (l, e); ack = rw (l, e); test = rw (l, e); break = rw (l, e); disconnect = rw (l, e); setup = rw (l, e); accept = rw (l, e) }
+  code-kind n x l e = record { data′ = rw (l, e); ack = rw (l, e); test = rw (l, e); break = rw (l, e); disconnect = rw (l, e); setup = rw (l, e); accept = rw (l, e) }
+
+  -- at its own length or at eight bytes
+  at-either : {P : Type 0} (n x : ℕ) → (ownOrEight n s && eqb (getD s 0 0) x) ≡ true → (length s ≡ n → getD s 0 0 ≡ x → P) → (length s ≡ 8 → getD s 0 0 ≡ x → P) → P
+  at-either n x h own eight =
+      let e = eqb-true (getD s 0 0) x (search and-second) in
+      let l : ownOrEight n s ≡ true = search and-first in
+      either (eqb (length s) n) (λ t. own (eqb-true (length s) n t) e) (λ t. eight (eqb-true (length s) 8 (rw t at l)) e)
 
   -- what holds of a telegram, by its kind
   pub by-kind : (P : Telegram → Type 0)
@@ -95,17 +106,17 @@ module _ (s : List ℕ) where
       rw (← data-same s, ← ack-same s)
       (by P (isData s) (λ d. rw (← asks-same s d, ← last-same s) (data′ (data-kind d))) (λ d.
       by P (isAck s) (λ a. rw (← ready-same s a) (ack (ack-kind a))) (λ a.
-      by P (isTest s) (λ t. test (code-kind 1 0xA3 t)) (λ t.
-      by P (isBreak s) (λ b. break (code-kind 1 0xA4 b)) (λ b.
-      by P (isDisconnect s) (λ x. disconnect (code-kind 1 0xA8 x)) (λ x.
-      by P (isSetup s) (λ u. setup (code-kind 6 0xA0 u)) (λ u.
-      by P (isAccept s) (λ p. accept (code-kind 6 0xA1 p))
+      by P (isTest s) (λ t. test (at-either 1 0xA3 t (code-kind 1 0xA3) (code-kind 8 0xA3))) (λ t.
+      by P (isBreak s) (λ b. break (at-either 1 0xA4 b (code-kind 1 0xA4) (code-kind 8 0xA4))) (λ b.
+      by P (isDisconnect s) (λ x. disconnect (at-either 1 0xA8 x (code-kind 1 0xA8) (code-kind 8 0xA8))) (λ x.
+      by P (isSetup s) (λ u. setup (code-kind 6 0xA0 (eqb-true (length s) 6 (search and-first)) (eqb-true (getD s 0 0) 0xA0 (search and-second)))) (λ u.
+      by P (isAccept s) (λ p. accept (at-either 6 0xA1 p (code-kind 6 0xA1) (code-kind 8 0xA1)))
       (λ p. malformed (record { data′ = d; ack = a; test = t; break = b; disconnect = x; setup = u; accept = p })))))))))
 
-  -- a reply has seven bytes, so it is no A0 or A1
-  no-channel : eqb (length s) 7 ≡ true → (isSetup s ≡ false) × (isAccept s ≡ false)
-  unfolding isSetup isAccept
-  no-channel h = let l = eqb-true (length s) 7 h in (rw l, rw l)
+  -- a reply has seven bytes, so it is no A0 or A1, and not padded
+  no-channel : eqb (length s) 7 ≡ true → (isSetup s ≡ false) × (isAccept s ≡ false) × (isPadded s ≡ false)
+  unfolding isSetup isAccept isPadded
+  no-channel h = let l = eqb-true (length s) 7 h in (rw l, rw l, rw (l, and-off′ (not (isData s)) false refl))
 
   refusal-bytes : isRefusal s ≡ true → eqb (length s) 7 ≡ true
   unfolding isRefusal
@@ -113,17 +124,35 @@ module _ (s : List ℕ) where
 
   -- what holds of a reply, by what it says
   pub by-reply : (receive : ℕ) (P : Reply → Type 0)
-      → (isRefusal s ≡ true → isSetup s ≡ false → isAccept s ≡ false → P (Refused (getD s 1 0)))
-      → (isRefusal s ≡ false → isPositive receive s ≡ true → isSetup s ≡ false → isAccept s ≡ false → P (Positive (idOf (getD s 4 0) (getD s 5 0))))
+      → (isRefusal s ≡ true → isSetup s ≡ false → isAccept s ≡ false → isPadded s ≡ false → P (Refused (getD s 1 0)))
+      → (isRefusal s ≡ false → isPositive receive s ≡ true → isSetup s ≡ false → isAccept s ≡ false → isPadded s ≡ false → P (Positive (idOf (getD s 4 0) (getD s 5 0))))
       → (isRefusal s ≡ false → isPositive receive s ≡ false → P NoReply)
       → P (replyRead s receive)
   unfolding replyRead isPositive
   by-reply receive P refused positive none =
       rw (← refusal-same s)
-      (by P (isRefusal s) (λ r. let n = no-channel (refusal-bytes r) in refused r (n .0) (n .1)) (λ r.
-      by P (isPositive receive s) (λ p. let n = no-channel (search (and-first, and-second)) in positive r p (n .0) (n .1)) (none r)))
+      (by P (isRefusal s) (λ r. let n = no-channel (refusal-bytes r) in refused r (n .0) (n .1) (n .2)) (λ r.
+      by P (isPositive receive s) (λ p. let n = no-channel (search (and-first, and-second)) in positive r p (n .0) (n .1) (n .2)) (none r)))
 
 -- data has two bytes or more
 pub data-bytes : (s : List ℕ) → isData s ≡ true → 2 ≤ length s
 unfolding isData
 data-bytes s d = ltb-true 1 (length s) (search (and-first, and-second))
+
+-- a refusal is not padded
+pub refusal-unpadded : (s : List ℕ) → isRefusal s ≡ true → isPadded s ≡ false
+refusal-unpadded s r = no-channel s (refusal-bytes s r) .2
+
+-- padded: no data, of eight bytes
+pub data-unpadded : (s : List ℕ) → isData s ≡ true → isPadded s ≡ false
+unfolding isPadded
+data-unpadded s d = rw d
+
+pub padded-eight : (s : List ℕ) → isData s ≡ false → isPadded s ≡ eqb (length s) 8
+unfolding isPadded
+padded-eight s d = rw d
+
+-- an A0 has six
+pub setup-unpadded : (s : List ℕ) → isSetup s ≡ true → isPadded s ≡ false
+unfolding isPadded isSetup
+setup-unpadded s u = let l = eqb-true (length s) 6 (search and-first) in rw (l, and-off′ (not (isData s)) false refl)

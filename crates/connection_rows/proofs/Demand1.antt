@@ -5,7 +5,7 @@ use denote.Ref.{now}
 use Rattle.connection_rows.specs.Demand1.{Demand1Holds}
 use Rattle.connection_rows.proofs.Arrival.{arrive-told}
 use Rattle.connection_rows.proofs.Calls.{open-told, time-told, due-told, send-told, take-told, close-told}
-use Rattle.connection_rows.proofs.Rows.{arrive-row, arrive-keeps-buffer, arrive-done, arrive-opcode, open-row, time-row, due-row, send-row, take-row, close-row}
+use Rattle.connection_rows.proofs.Rows.{arrive-row, arrive-keeps-buffer, arrive-done, arrive-marks, arrive-opcode, open-row, time-row, due-row, send-row, take-row, close-row}
 
 pub demand1 : Demand1Holds
 demand1 =
@@ -24,5 +24,6 @@ demand1 =
       looks = λ c b. let e = take-told c (length (now b)) in (ap (λ x. x .0) e, ap (λ x. x .1 .2) e);
       keeps = arrive-keeps-buffer;
       done = arrive-done;
+      marks = arrive-marks;
       opcode = arrive-opcode;
     }

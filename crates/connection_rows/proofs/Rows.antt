@@ -1,7 +1,7 @@
 -- For each call and each number: the number is said exactly where a row of it holds and none before it in the call's table does,
 -- and what the call leaves with it. The tables stand in specs/Rows.antt, `Says` and `Given` in specs/Tables.antt.
 use Prim.Native.Nat.{ℕ, _+_}
-use mathlib.Core.Bool.{true, false, _||_, true≢false}
+use mathlib.Core.Bool.{Bool, true, false, not, _&&_, _||_, or-false, true≢false, false≢true}
 use mathlib.Core.List.{List}
 use mathlib.Core.Logic.{_↔_, _≢_}
 use mathlib.Core.Path.{_≡_, refl, sym, ap, _∙_}
@@ -9,7 +9,7 @@ use lib.ListN.{length, getD}
 use lib.Dec.{eqb}
 use borrow.Author.Tests.{ne-eqb, not-true}
 use Rattle.laws.specs.If.{if_then_else_}
-use Rattle.laws.proofs.Cases.{either, and-first, and-second, or-first, or-second}
+use Rattle.laws.proofs.Cases.{either, and-first, and-second, or-first, or-second, neither}
 use Rattle.telegram.specs.declared.cutting.Message.{Message}
 use Rattle.settings.specs.declared.Settings.{Settings}
 use Rattle.open_end.specs.declared.answers.Said.{Said}
@@ -17,67 +17,76 @@ use Rattle.connection.specs.declared.Connection.{Connection}
 use Rattle.connection.specs.Calls.{closedDue, dueOf}
 use Rattle.connection_rows.specs.Tables.{plain, toldBy, Given, Says}
 use Rattle.connection_rows.specs.Records.{isClosed, isRequesting, isAgreeing, closedRecord, leavingOn, asking, onSender, onReceiver}
-use Rattle.connection_rows.specs.Rows.{carriedBy, single, messageAccepted, isWaiting, isData, asksAck, otherId, noMessage, isHolding, ahead, isBeyond, atFirst, waitsUntaken, askedForAck, thrownAway, finishes, recordAfter, bufferAfter, arrivalTable, arriveSays, openTable, openSays, recordLater, timeTable, timeSays, hands, handsNone, dueTable, dueSays, sendTable, sendSays, messageTaken, takeTable, takeSays, closeTable, closeSays}
-use Rattle.connection_rows.proofs.Tables.{Leaving, given, says, every}
-use Rattle.connection_rows.proofs.Bytes.{telegram, ack-kind}
+use Rattle.connection_rows.specs.Rows.{carriedBy, single, messageAccepted, isWaiting, isData, asksAck, isSetup, isPadded, kindNotDue, otherId, noMessage, isHolding, ahead, isBeyond, atFirst, waitsUntaken, askedForAck, thrownAway, finishes, recordAfter, bufferAfter, arrivalTable, arriveSays, openTable, openSays, recordLater, timeTable, timeSays, hands, handsNone, dueTable, dueSays, sendTable, sendSays, messageTaken, takeTable, takeSays, closeTable, closeSays}
+use Rattle.connection_rows.proofs.Tables.{Leaving, given, says, every, every-held}
+use Rattle.connection_rows.proofs.Bytes.{telegram, ack-kind, data-unpadded, setup-unpadded, refusal-unpadded}
+use Rattle.connection_rows.proofs.Tests.{other-phase}
 use Rattle.connection_rows.proofs.Arrival.{arrive-told}
 use Rattle.connection_rows.proofs.Calls.{open-told, time-told, due-told, send-told, take-told, close-told}
 
 -- ---- a frame arrives
 
 module _ (limit : ℕ) (c : Connection) (id : ℕ) (s b : List ℕ) where
-  abbrev Arrives : ℕ → Connection × List ℕ → Type 0
+  abbrev Arrives : ℕ → Bool × Connection × List ℕ → Type 0
   Arrives n x = Says n x (arriveSays limit c id s b) (arrivalTable limit c id s b)
 
-  arrive : (n : ℕ) {x : Connection × List ℕ} → Leaving n x (arrivalTable limit c id s b) → Arrives n x
+  arrive : (n : ℕ) {x : Bool × Connection × List ℕ} → Leaving n x (arrivalTable limit c id s b) → Arrives n x
   arrive = says _ (arrive-told limit c id s b)
 
   -- every number, those too that an arrival never gives
   pub arrive-row : (n : ℕ) → (arriveSays limit c id s b .0 .number ≡ n) ↔ Given n (arriveSays limit c id s b .1) (arrivalTable limit c id s b)
   arrive-row = given (arrivalTable limit c id s b) (arrive-told limit c id s b)
 
-  pub arrive-row-0 : Arrives 0 (recordAfter c s, bufferAfter c s b)
+  pub arrive-row-0 : Arrives 0 (isPadded s, recordAfter c s, bufferAfter c s b)
   arrive-row-0 = arrive 0 refl
 
-  pub arrive-row-1 : Arrives 1 (c, b)
+  pub arrive-row-1 : Arrives 1 (false, c, b)
   arrive-row-1 = arrive 1 (λ _. refl, tt)
 
-  pub arrive-row-2 : Arrives 2 (c, b)
+  pub arrive-row-2 : Arrives 2 (isPadded s, c, b)
   arrive-row-2 = arrive 2 (λ _. refl, tt)
 
-  pub arrive-row-3 : Arrives 3 (c, b)
+  pub arrive-row-3 : Arrives 3 (false, c, b)
   arrive-row-3 = arrive 3 (λ _. refl, tt)
 
-  pub arrive-row-4 : Arrives 4 (c, b)
-  arrive-row-4 = arrive 4 (λ _. refl, (λ _. refl, tt))
+  -- a closed record's 4 has no mark; of a kind that is not due only an A0 meets one, and that is never padded
+  undue-mark : kindNotDue c s ≡ true → isPadded s ≡ (not (isClosed c) && isPadded s)
+  undue-mark undue =
+      either (isClosed c)
+      (λ closed. let u : (isSetup s || false) ≡ true = rw (closed, other-phase (c .phase) 0 1 closed refl, other-phase (c .phase) 0 2 closed refl) at undue in
+      rw closed (setup-unpadded s (sym (or-false (isSetup s)) ∙ u)))
+      (λ closed. rw closed)
 
-  pub arrive-row-5 : Arrives 5 (askedForAck c s, b)
+  pub arrive-row-4 : Arrives 4 (not (isClosed c) && isPadded s, c, b)
+  arrive-row-4 = arrive 4 (λ closed. rw closed, (λ undue. rw (← undue-mark undue), tt))
+
+  pub arrive-row-5 : Arrives 5 (false, askedForAck c s, b)
   arrive-row-5 = arrive 5 (λ _. refl, tt)
 
-  pub arrive-row-7 : Arrives 7 (if atFirst c then thrownAway c s else c, b)
+  pub arrive-row-7 : Arrives 7 (false, if atFirst c then thrownAway c s else c, b)
   arrive-row-7 =
       arrive 7 (
         λ h. let later : atFirst c ≡ false = not-true (atFirst c) (search (and-first, and-second)) in rw later,
         (λ h. let first : atFirst c ≡ true = search (and-first, and-second) in rw first, tt),
       )
 
-  pub arrive-row-8 : Arrives 8 (closedRecord, b)
+  pub arrive-row-8 : Arrives 8 (isPadded s, closedRecord, b)
   arrive-row-8 = arrive 8 (λ _. refl, tt)
 
-  pub arrive-row-9 : Arrives 9 (thrownAway c s, b)
+  pub arrive-row-9 : Arrives 9 (false, thrownAway c s, b)
   arrive-row-9 = arrive 9 (λ _. refl, tt)
 
-  pub arrive-row-11 : Arrives 11 (closedRecord, b)
+  pub arrive-row-11 : Arrives 11 (false, closedRecord, b)
   arrive-row-11 = arrive 11 (λ _. refl, tt)
 
-  pub arrive-row-12 : Arrives 12 (askedForAck c s, b)
+  pub arrive-row-12 : Arrives 12 (isPadded s, askedForAck c s, b)
   arrive-row-12 = arrive 12 (λ _. refl, tt)
 
   -- "A refusal never writes to the buffer"
-  pub arrive-keeps-buffer : arriveSays limit c id s b .0 .number ≢ 0 → arriveSays limit c id s b .1 .1 ≡ b
+  pub arrive-keeps-buffer : arriveSays limit c id s b .0 .number ≢ 0 → arriveSays limit c id s b .1 .2 ≡ b
   arrive-keeps-buffer refuses =
       rw (ne-eqb _ _ refuses) at
-      (every (arrivalTable limit c id s b) (arrive-told limit c id s b) (λ a x. if eqb (a .number) 0 then Unit else x .1 ≡ b)
+      (every (arrivalTable limit c id s b) (arrive-told limit c id s b) (λ a x. if eqb (a .number) 0 then Unit else x .2 ≡ b)
       (refl, (refl, (refl, (refl, (refl, (refl, (refl, (refl, (refl, (refl, (refl, (refl, tt)))))))))))))
 
   -- "11 | D6, D7 or D8, with that opcode", and no other answer has one
@@ -86,13 +95,80 @@ module _ (limit : ℕ) (c : Connection) (id : ℕ) (s b : List ℕ) where
       every (arrivalTable limit c id s b) (arrive-told limit c id s b) (λ a x. a .opcode ≡ (if eqb (a .number) 11 then getD s 1 0 else 0))
       (refl, (refl, (refl, (refl, (refl, (refl, (refl, (refl, (refl, (refl, (refl, (refl, refl))))))))))))
 
+  -- "Every answer to an arriving frame, but 1, 3 and a closed record's 4, carries that mark on" (02, request 4)
+  marked-carries : arriveSays limit c id s b .1 .0 ≡ true
+      → (isPadded s ≡ true) × (arriveSays limit c id s b .0 .number ≢ 1) × (arriveSays limit c id s b .0 .number ≢ 3)
+  marked-carries =
+      every (arrivalTable limit c id s b) (arrive-told limit c id s b) (λ a x. x .0 ≡ true → (isPadded s ≡ true) × (a .number ≢ 1) × (a .number ≢ 3))
+      (none, (none, (none, (carries 4 refl, (carries 2 refl, (none, (carries 12 refl, (carries 8 refl, (none, (none, (none, (none, carries 0 refl))))))))))))
+    where
+      none : {n : ℕ} → false ≡ true → (isPadded s ≡ true) × (n ≢ 1) × (n ≢ 3)
+      none e = absurd (false≢true e)
+
+      carries : (n : ℕ) → (eqb n 1 || eqb n 3) ≡ false → isPadded s ≡ true → (isPadded s ≡ true) × (n ≢ 1) × (n ≢ 3)
+      carries n h e = let k = neither n 1 3 h in (e, k .0, k .1)
+
+  standing : arriveSays limit c id s b .1 .0 ≡ true → isClosed c ≡ false
+  standing m = either (isClosed c) (λ closed. absurd (false≢true (sym (told-mark ∙ rw closed) ∙ m))) (λ closed. closed)
+    where
+      told-mark : arriveSays limit c id s b .1 .0 ≡ toldBy (arrivalTable limit c id s b) .1 .0
+      told-mark = ap (λ (x : Said × (Bool × Connection × List ℕ)). x .1 .0) (arrive-told limit c id s b)
+
+  -- so it is with every other answer: those without a mark are to data or to a reply, or 1, 3 or a closed record's 4
+  carries-marked : isPadded s ≡ true → isClosed c ≡ false → arriveSays limit c id s b .0 .number ≢ 1 → arriveSays limit c id s b .0 .number ≢ 3 → arriveSays limit c id s b .1 .0 ≡ true
+  carries-marked padded open′ =
+      every-held (arrivalTable limit c id s b) (arrive-told limit c id s b) (λ a x. a .number ≢ 1 → a .number ≢ 3 → x .0 ≡ true) (
+        λ closed. absurd (false≢true (sym open′ ∙ closed)),
+        (
+          λ _ one three. absurd (three refl),
+          (
+            λ _ one three. absurd (one refl),
+            (
+              λ _ one three. padded,
+              (
+                λ _ one three. padded,
+                (
+                  λ r. absurd (false≢true (sym (refusal-unpadded s (search and-second)) ∙ padded)),
+                  (
+                    λ _ one three. padded,
+                    (
+                      λ _ one three. padded,
+                      (
+                        λ h. no-data (search (and-first, and-second)),
+                        (
+                          λ h. no-data (search (and-first, and-second)),
+                          (
+                            λ h. no-data (search (and-first, and-second)),
+                            (
+                              λ h. no-data (search (and-first, and-second)),
+                              λ one three. padded,
+                            ),
+                          ),
+                        ),
+                      ),
+                    ),
+                  ),
+                ),
+              ),
+            ),
+          ),
+        ),
+      )
+    where
+      no-data : {P : Type 0} → isData s ≡ true → P
+      no-data d = absurd (false≢true (sym (data-unpadded s d) ∙ padded))
+
+  pub arrive-marks : (arriveSays limit c id s b .1 .0 ≡ true)
+      ↔ ((isPadded s ≡ true) × (isClosed c ≡ false) × (arriveSays limit c id s b .0 .number ≢ 1) × (arriveSays limit c id s b .0 .number ≢ 3))
+  arrive-marks = (λ m. let k = marked-carries m in (k .0, standing m, k .1, k .2), λ g. carries-marked (g .0) (g .1) (g .2) (g .3))
+
   not-done : finishes c s ≡ false → arriveSays limit c id s b .0 .done ≡ false
   not-done f =
       every (arrivalTable limit c id s b) (arrive-told limit c id s b) (λ a x. a .done ≡ false)
       (refl, (refl, (refl, (refl, (refl, (refl, (refl, (refl, (refl, (refl, (refl, (refl, f))))))))))))
 
   told-done : arriveSays limit c id s b .0 .done ≡ toldBy (arrivalTable limit c id s b) .0 .done
-  told-done = ap (λ (x : Said × (Connection × List ℕ)). x .0 .done) (arrive-told limit c id s b)
+  told-done = ap (λ (x : Said × (Bool × Connection × List ℕ)). x .0 .done) (arrive-told limit c id s b)
 
   not-ours : otherId c id ≡ true → arriveSays limit c id s b .0 .done ≡ false
   not-ours o = told-done ∙ (either (isClosed c) (λ e. rw e) (λ e. rw (e, o)))

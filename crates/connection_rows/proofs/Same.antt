@@ -13,7 +13,7 @@ use Rattle.laws.specs.If.{if_then_else_}
 use Rattle.laws.proofs.Cases.{either, and-first, and-second, smaller-min}
 use Rattle.telegram.specs.Time.{tenthsOf}
 use Rattle.telegram.specs.Outgoing.{payloadOf}
-use Rattle.telegram.specs.Kinds.{top, bit4, bit5, badBlock}
+use Rattle.telegram.specs.Kinds.{top, bit4, bit5, badBlock, ownOrFilled}
 use Rattle.telegram.specs.Cutting.{framesOf, headerOf, streamOf, lastAt, asksAt, frameAt}
 use Rattle.opening.specs.Opening.{refusal}
 use Rattle.settings.specs.Settings.{allowed}
@@ -27,7 +27,7 @@ use Rattle.channel.specs.declared.Channel.{Channel}
 use Rattle.connection.specs.declared.Connection.{Connection}
 use Rattle.connection.specs.Record.{listensOn, hears}
 use Rattle.connection_rows.specs.Records.{isClosed, isRequesting, unit, tenths, smaller}
-use Rattle.connection_rows.specs.Rows.{isData, asksAck, isLast, numberIn, isAck, isReady, isRefusal, otherId, ahead, carriedBy, inRange, testDue, padded, dataDue, isEnd, withAR, firstByte, dataOf, dataOut, writtenAt}
+use Rattle.connection_rows.specs.Rows.{isData, asksAck, isLast, numberIn, isAck, isReady, isRefusal, otherId, ahead, carriedBy, inRange, testDue, zeroFilled, dataDue, isEnd, withAR, firstByte, dataOf, dataOut, writtenAt}
 use Rattle.connection_rows.proofs.Words.{below-40, below-20, upper-half, ack-byte, ready-byte, refusal-byte, ahead-by, number-by, acked-to, carried, left-behind, multiple, some-left, larger-max, not-above, below-next, below-not, neither, unit-pow, zeros-behind}
 
 -- ---- bytes
@@ -49,15 +49,15 @@ module _ (s : List ℕ) where
   last-same = upper-half (getD s 0 0)
 
   -- an Ack
-  pub ack-same : isAck s ≡ (eqb (length s) 1 && eqb (top (getD s 0 0)) 2 && eqb (bit4 (getD s 0 0)) 1)
+  pub ack-same : isAck s ≡ (ownOrFilled 1 s && eqb (top (getD s 0 0)) 2 && eqb (bit4 (getD s 0 0)) 1)
   unfolding isAck
-  ack-same = rw (ack-byte (getD s 0 0)) (either (eqb (length s) 1) (λ e. rw e) (λ e. rw e))
+  ack-same = rw (ack-byte (getD s 0 0)) (either (ownOrFilled 1 s) (λ e. rw e) (λ e. rw e))
 
   -- RS of an Ack
   pub ready-same : isAck s ≡ true → isReady s ≡ eqb (bit5 (getD s 0 0)) 1
   unfolding isReady
   ready-same a =
-      let h : (eqb (length s) 1 && eqb (top (getD s 0 0)) 2 && eqb (bit4 (getD s 0 0)) 1) ≡ true = sym ack-same ∙ a in
+      let h : (ownOrFilled 1 s && eqb (top (getD s 0 0)) 2 && eqb (bit4 (getD s 0 0)) 1) ≡ true = sym ack-same ∙ a in
       ready-byte (getD s 0 0) (eqb-true _ _ (search (and-first, and-second))) (eqb-true _ _ (search (and-first, and-second)))
 
   -- D6, D7 and D8
@@ -127,8 +127,8 @@ unfolding testDue channelTestDue
 test-same ch = rw (not-above (ch .sender .acked) (ch .sender .high), some-left (ch .parameters .interval))
 
 -- at most eight bytes, with zeros behind them
-padded-same : (b : ℕ) (s : List ℕ) → padded (b ∷ take 7 s) ≡ payloadOf (b ∷ take 7 s)
-padded-same b s = rw (zeros-behind (b ∷ take 7 s) (simp length-take (omega arith)))
+zeroFilled-same : (b : ℕ) (s : List ℕ) → zeroFilled (b ∷ take 7 s) ≡ payloadOf (b ∷ take 7 s)
+zeroFilled-same b s = rw (zeros-behind (b ∷ take 7 s) (simp length-take (omega arith)))
 
 -- a first byte
 first-same : (asks last : Bool) (number : ℕ) → firstByte asks last (number % 16) ≡ headerOf asks last number
@@ -144,7 +144,7 @@ pub frame-same : (ch : Channel) (m : List ℕ) → length m ≡ ch .sender .leng
 unfolding frameAt firstNumber streamOf
 frame-same ch m e =
     rw (← e, asks-at-same (ch .parameters .terms .block) (length m) (ch .sender .next), end-same (length m) (ch .sender .next), number-by (ch .sender .oldest) (ch .sender .acked) (ch .sender .next), first-same)
-    (padded-same _ (drop (7 * ch .sender .next) (streamOf m)))
+    (zeroFilled-same _ (drop (7 * ch .sender .next) (streamOf m)))
 
 -- what it leaves
 pub out-same : (ch : Channel) → dataOut ch ≡ restarted (withSender ch (advanced (ch .parameters .terms) (ch .sender)))

@@ -2,6 +2,7 @@
 --     given    it says a number exactly where the table gives it
 --     says     it says a number exactly where the table gives it, and leaves what every row of that number leaves
 --     every    what holds of every row, holds of it
+--     every-held    so does what holds of every row whose condition holds
 use Prim.Native.Nat.{ℕ}
 use mathlib.Core.Bool.{true, true≢false, false≢true}
 use mathlib.Core.Logic.{_↔_, inl, inr, ⊎-elim}
@@ -35,14 +36,23 @@ module _ {A : Type 0} where
       (λ m. let l : (r .holds ≡ true → r .leaves ≡ y) × Leaving n y t = rw m at h in either (r .holds) (λ e. rw e (λ k. l .0 e)) (λ e. rw e (rest (l .1))))
       (λ m. either (r .holds) (λ e. rw e (λ k. absurd (eqb-false _ _ m k))) (λ e. rw e (rest (rw m at h))))
 
-  -- every row says and leaves what is in P
+  -- every row whose condition holds says and leaves what is in P
+  abbrev pub Held : (Said → A → Type 0) → Table A → Type 0
+  Held P (always s x) = P s x
+  Held P (r orElse t) = (r .holds ≡ true → P (r .says) (r .leaves)) × Held P t
+
+  table-held : (P : Said → A → Type 0) (t : Table A) → Held P t → P (toldBy t .0) (toldBy t .1)
+  table-held P (always s x) h = h
+  table-held P (r orElse t) h = by (λ (y : Said × A). P (y .0) (y .1)) (r .holds) (λ e. h .0 e) (λ e. table-held P t (h .1))
+
+  -- every row does
   abbrev pub Every : (Said → A → Type 0) → Table A → Type 0
   Every P (always s x) = P s x
   Every P (r orElse t) = P (r .says) (r .leaves) × Every P t
 
-  table-every : (P : Said → A → Type 0) (t : Table A) → Every P t → P (toldBy t .0) (toldBy t .1)
-  table-every P (always s x) h = h
-  table-every P (r orElse t) h = by (λ (y : Said × A). P (y .0) (y .1)) (r .holds) (λ e. h .0) (λ e. table-every P t (h .1))
+  every-row : (P : Said → A → Type 0) (t : Table A) → Every P t → Held P t
+  every-row P (always s x) h = h
+  every-row P (r orElse t) h = (λ _. h .0, every-row P t (h .1))
 
   module _ {told : Said × A} (t : Table A) (e : told ≡ toldBy t) where
     pub given : (n : ℕ) → (told .0 .number ≡ n) ↔ Given n (told .1) t
@@ -51,5 +61,8 @@ module _ {A : Type 0} where
     pub says : (n : ℕ) {x : A} → Leaving n x t → Says n x told t
     says n {x} h = record { exactly = given n; leaves = rw e (table-leaving n x t h) }
 
+    pub every-held : (P : Said → A → Type 0) → Held P t → P (told .0) (told .1)
+    every-held P h = rw e (table-held P t h)
+
     pub every : (P : Said → A → Type 0) → Every P t → P (told .0) (told .1)
-    every P h = rw e (table-every P t h)
+    every P h = every-held P (every-row P t h)

@@ -15,7 +15,8 @@ use Rattle.open_end.specs.declared.answers.Said.{Said}
 use Rattle.connection.specs.declared.Connection.{Connection}
 use Rattle.connection.specs.Calls.{takes}
 use Rattle.connection_rows.specs.Tables.{Table, toldBy, Given}
-use Rattle.connection_rows.specs.Rows.{otherId, finishes, arrivalTable, arriveSays, openTable, openSays, timeTable, timeSays, dueTable, dueSays, sendTable, sendSays, takeTable, takeSays, closeTable, closeSays}
+use Rattle.connection_rows.specs.Records.{isClosed}
+use Rattle.connection_rows.specs.Rows.{isPadded, otherId, finishes, arrivalTable, arriveSays, openTable, openSays, timeTable, timeSays, dueTable, dueSays, sendTable, sendSays, takeTable, takeSays, closeTable, closeSays}
 
 -- a call that says and leaves `told` goes by a table
 pub record GoesBy {A : Type 0} (told : Said × A) (t : Table A) : Type 0 where
@@ -57,11 +58,16 @@ pub record Demand1 : Type 0 where
   -- "A refusal never writes to the buffer"
   pub keeps :
       (limit : ℕ) (c : Connection) (id : ℕ) (s b : List ℕ) →
-      arriveSays limit c id s b .0 .number ≢ 0 → arriveSays limit c id s b .1 .1 ≡ b
+      arriveSays limit c id s b .0 .number ≢ 0 → arriveSays limit c id s b .1 .2 ≡ b
   -- "The message is done when its last frame is acknowledged, and the answer to that Ack says so"
   pub done :
       (limit : ℕ) (c : Connection) (id : ℕ) (s b : List ℕ) →
       (arriveSays limit c id s b .0 .done ≡ true) ↔ ((otherId c id ≡ false) × (finishes c s ≡ true))
+  -- "Every answer to an arriving frame, but 1, 3 and a closed record's 4, carries that mark on" (02, request 4): of a telegram of 8 bytes that is no data
+  pub marks :
+      (limit : ℕ) (c : Connection) (id : ℕ) (s b : List ℕ) →
+      (arriveSays limit c id s b .1 .0 ≡ true)
+      ↔ ((isPadded s ≡ true) × (isClosed c ≡ false) × (arriveSays limit c id s b .0 .number ≢ 1) × (arriveSays limit c id s b .0 .number ≢ 3))
   -- "D6, D7 or D8, with that opcode", and no other answer has one
   pub opcode :
       (limit : ℕ) (c : Connection) (id : ℕ) (s b : List ℕ) →

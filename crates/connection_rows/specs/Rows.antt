@@ -42,37 +42,45 @@ isLast s = leb 0x10 (getD s 0 0 % 0x20)
 abbrev pub numberIn : List ℕ → ℕ
 numberIn s = getD s 0 0 % 16
 
--- "Ack, 1 byte: 1 0 RS 1 number": 0x90 to 0x9F, and 0xB0 to 0xBF
+-- "at their own length or at exactly 8 bytes" (02, request 4)
+abbrev pub ownOrEight : (own : ℕ) → List ℕ → Bool
+ownOrEight own s = eqb (length s) own || eqb (length s) 8
+
+-- "Ack, 1 byte: 1 0 RS 1 number": 0x90 to 0x9F, and 0xB0 to 0xBF; or at 8 bytes
 unfoldable pub isAck : List ℕ → Bool
-isAck s = eqb (length s) 1 && (leb 0x90 (getD s 0 0) && ltb (getD s 0 0) 0xA0 || leb 0xB0 (getD s 0 0) && ltb (getD s 0 0) 0xC0)
+isAck s = ownOrEight 1 s && (leb 0x90 (getD s 0 0) && ltb (getD s 0 0) 0xA0 || leb 0xB0 (getD s 0 0) && ltb (getD s 0 0) 0xC0)
 
 -- "RS 1 is ready": an Ack from 0xB0 on
 unfoldable pub isReady : List ℕ → Bool
 isReady s = leb 0xB0 (getD s 0 0)
 
--- "One byte each: A3 test, A4 break, A8 disconnect"
+-- "One byte each: A3 test, A4 break, A8 disconnect"; or at 8 bytes
 unfoldable pub isTest : List ℕ → Bool
-isTest s = eqb (length s) 1 && eqb (getD s 0 0) 0xA3
+isTest s = ownOrEight 1 s && eqb (getD s 0 0) 0xA3
 
--- "A4 break"
+-- "A4 break"; or at 8 bytes
 unfoldable pub isBreak : List ℕ → Bool
-isBreak s = eqb (length s) 1 && eqb (getD s 0 0) 0xA4
+isBreak s = ownOrEight 1 s && eqb (getD s 0 0) 0xA4
 
--- "A8 disconnect"
+-- "A8 disconnect"; or at 8 bytes
 unfoldable pub isDisconnect : List ℕ → Bool
-isDisconnect s = eqb (length s) 1 && eqb (getD s 0 0) 0xA8
+isDisconnect s = ownOrEight 1 s && eqb (getD s 0 0) 0xA8
 
--- "Six bytes: A0, A1"
+-- "Six bytes: A0", at no other length
 unfoldable pub isSetup : List ℕ → Bool
 isSetup s = eqb (length s) 6 && eqb (getD s 0 0) 0xA0
 
--- "Six bytes: .. A1"
+-- "Six bytes: .. A1"; or at 8 bytes
 unfoldable pub isAccept : List ℕ → Bool
-isAccept s = eqb (length s) 6 && eqb (getD s 0 0) 0xA1
+isAccept s = ownOrEight 6 s && eqb (getD s 0 0) 0xA1
 
 -- "All else, or another length, is badly formed"
 unfoldable pub isTelegram : List ℕ → Bool
 isTelegram s = isData s || isAck s || isTest s || isBreak s || isDisconnect s || isSetup s || isAccept s
+
+-- the mark of what is no badly formed telegram (02, request 4): one of 8 bytes is padded, unless it is data
+unfoldable pub isPadded : List ℕ → Bool
+isPadded s = not (isData s) && eqb (length s) 8
 
 -- D6, D7, D8: "of these only length, byte 0 and opcode are checked"
 unfoldable pub isRefusal : List ℕ → Bool
@@ -327,27 +335,29 @@ bufferAfter c s b =
 
 -- ---- the tables
 
--- "Order on arrival: 4 if closed, then 3, 1, 4, 2, 12, 5, 7 (a later frame), 9, 7 (a first frame)"; 11 comes of a reply that is due, and 8 of an Ack that is not refused
-abbrev pub arrivalTable : (limit : ℕ) → Connection → (id : ℕ) → (s b : List ℕ) → Table (Connection × List ℕ)
+-- "Order on arrival: 4 if closed, then 3, 1, 4, 2, 12, 5, 7 (a later frame), 9, 7 (a first frame)"; 11 comes of a reply that is due, and 8 of an Ack that is not refused;
+-- every answer "but 1, 3 and a closed record's 4, carries that mark on" (02, request 4), and those to data and to a reply have none
+abbrev pub arrivalTable : (limit : ℕ) → Connection → (id : ℕ) → (s b : List ℕ) → Table (Bool × Connection × List ℕ)
 arrivalTable limit c id s b =
-    row (isClosed c) 4 (c, b)
-    orElse row (otherId c id) 3 (c, b)
-    orElse row (badForm c s) 1 (c, b)
-    orElse row (kindNotDue c s) 4 (c, b)
-    orElse row (badBlock s) 2 (c, b)
-    orElse record { holds = refused c s; says = record { number = 11; done = false; opcode = getD s 1 0 }; leaves = (closedRecord, b) }
-    orElse row (outOfPlace c s || changesNothing c s) 12 (askedForAck c s, b)
-    orElse row (notReadyTooOften c s) 8 (closedRecord, b)
-    orElse row (waitsUntaken c s) 5 (askedForAck c s, b)
-    orElse row (shortLater c s (length b)) 7 (c, b)
-    orElse row (broken limit c s) 9 (thrownAway c s, b)
-    orElse row (shortFirst c s (length b)) 7 (thrownAway c s, b)
-    orElse always (record { number = 0; done = finishes c s; opcode = 0 }) (recordAfter c s, bufferAfter c s b)
+    row (isClosed c) 4 (false, c, b)
+    orElse row (otherId c id) 3 (false, c, b)
+    orElse row (badForm c s) 1 (false, c, b)
+    orElse row (kindNotDue c s) 4 (isPadded s, c, b)
+    orElse row (badBlock s) 2 (isPadded s, c, b)
+    orElse record { holds = refused c s; says = record { number = 11; done = false; opcode = getD s 1 0 }; leaves = (false, closedRecord, b) }
+    orElse row (outOfPlace c s || changesNothing c s) 12 (isPadded s, askedForAck c s, b)
+    orElse row (notReadyTooOften c s) 8 (isPadded s, closedRecord, b)
+    orElse row (waitsUntaken c s) 5 (false, askedForAck c s, b)
+    orElse row (shortLater c s (length b)) 7 (false, c, b)
+    orElse row (broken limit c s) 9 (false, thrownAway c s, b)
+    orElse row (shortFirst c s (length b)) 7 (false, thrownAway c s, b)
+    orElse always (record { number = 0; done = finishes c s; opcode = 0 }) (isPadded s, recordAfter c s, bufferAfter c s b)
 
--- what an arrival says and leaves, lent the buffer b
-abbrev pub arriveSays : (limit : ℕ) → Connection → (id : ℕ) → (s b : List ℕ) → Said × (Connection × List ℕ)
+-- what an arrival says and leaves, lent the buffer b: the number with what it carries, the mark, the record and the buffer
+abbrev pub arriveSays : (limit : ℕ) → Connection → (id : ℕ) → (s b : List ℕ) → Said × (Bool × Connection × List ℕ)
 arriveSays limit c id s b =
-    (arrived limit c id s (length b) .told .said, (arrived limit c id s (length b) .connection, buffered limit c id s b))
+    (let r = arrived limit c id s (length b) in
+    (r .told .said, (r .padded, r .connection, buffered limit c id s b)))
 
 -- ---- open
 
@@ -455,8 +465,8 @@ abbrev pub c0 : Settings → Payload
 c0 s = record { len = 7; bytes = s .unit ∷ 0xC0 ∷ 0x00 ∷ 0x10 ∷ s .receive % 256 ∷ s .receive / 256 % 8 ∷ 0x01 ∷ 0 ∷ [] }
 
 -- the bytes s, and zeros behind them
-abbrev pub padded : List ℕ → Payload
-padded s = record { len = length s; bytes = s ++ replicate (8 - length s) 0 }
+abbrev pub zeroFilled : List ℕ → Payload
+zeroFilled s = record { len = length s; bytes = s ++ replicate (8 - length s) 0 }
 
 -- "With none out, a test goes out after the test interval .., and never while data is unacknowledged", an interval of 0 meaning no tests; or "another", after a wait that ran out
 unfoldable pub testDue : Channel → Bool
@@ -506,7 +516,7 @@ firstByte asks last number = (if last then 0x10 else 0x00) + (if asks then 0x00 
 abbrev pub dataOf : Channel → (m : List ℕ) → Payload
 dataOf ch m =
     (let s = ch .sender in
-    padded
+    zeroFilled
     (firstByte (withAR (ch .parameters .terms .block) (s .length) (s .next)) (isEnd (s .length) (s .next)) ((s .oldest + 15 * s .acked + s .next) % 16)
     ∷ take 7 (drop (7 * s .next) (length m / 256 % 16 ∷ length m % 256 ∷ m))))
 

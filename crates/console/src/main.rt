@@ -259,9 +259,15 @@ impl Console {
     fn answered(self, answered: Answered) -> Console {
         let told = answered.told;
         let next = answered.connection;
+        self.holding(next).telling(told, false)
+    }
+
+    // Says an answer; the mark of a padded telegram stands last.
+    fn telling(self, told: Told, padded: bool) -> Console {
         let mut text = [0; 64];
-        let end = tell(&mut text, told);
-        self.holding(next).say_line(&mut text, end)
+        let at = tell(&mut text, told);
+        let end = with_word(&mut text, at, padded, b" padded");
+        self.say_line(&mut text, end)
     }
 
     fn renewed(mut self, buffer: &mut [u8]) -> Console {
@@ -282,11 +288,9 @@ impl Console {
         let room = self.room;
         let arrived = arrive(connection, id, bytes, buffer, room);
         let told = arrived.told;
+        let padded = arrived.padded;
         let next = arrived.connection;
-        self.answered(Answered {
-            told,
-            connection: next,
-        })
+        self.holding(next).telling(told, padded)
     }
 
     fn waiting(self, tenths: u64) -> Console {
@@ -374,7 +378,7 @@ fn tell(text: &mut [u8], told: Told) -> usize {
     let said = told.said;
     let at = writing::decimal(text, 0, said.number as u64);
     let at = with_opcode(text, at, said.number == 11, said.opcode);
-    with_done(text, at, said.done)
+    with_word(text, at, said.done, b" done")
 }
 
 fn with_opcode(text: &mut [u8], at: usize, carried: bool, opcode: u8) -> usize {
@@ -384,9 +388,9 @@ fn with_opcode(text: &mut [u8], at: usize, carried: bool, opcode: u8) -> usize {
     at
 }
 
-fn with_done(text: &mut [u8], at: usize, done: bool) -> usize {
-    if done {
-        return writing::bytes(text, at, b" done");
+fn with_word(text: &mut [u8], at: usize, given: bool, word: &[u8]) -> usize {
+    if given {
+        return writing::bytes(text, at, word);
     }
     at
 }

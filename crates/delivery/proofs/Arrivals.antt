@@ -23,7 +23,7 @@ use Rattle.receiver.proofs.Outcomes.{TakeOutcome, none-complete, short-buffer, 
 use Rattle.receiver.specs.declared.Receipt.{Receipt}
 use Rattle.receiver.specs.declared.Receipt.the-variants.{Used, Complete, ThrownAway, OutOfPlace, Untaken, ShortFirst, ShortLater, Broken, NoData}
 use Rattle.receiver.specs.declared.Received.{Received}
-use Rattle.receiver.proofs.Laws.{NotData, received-data, received-other, buffered-unused}
+use Rattle.receiver.proofs.Laws.{NotData, received-data}
 use Rattle.channel.specs.declared.Channel.{Channel}
 use Rattle.channel.specs.declared.Tests.{Tests}
 use Rattle.channel.specs.declared.Answer.{Answer}
@@ -32,7 +32,7 @@ use Rattle.channel.specs.declared.Answered.{Answered}
 use Rattle.channel.specs.Numbers.{said, closes}
 use Rattle.channel.specs.Opened.{withSender, withReceiver}
 use Rattle.arrival.specs.Arrived.{dataAnswer, ackAnswer, arrived}
-use Rattle.arrival.proofs.Arriving.{ArrivalOutcome, arrival-outcome, arrived-data, arrived-ack, data-goes-on, answers as leaves}
+use Rattle.arrival.proofs.Arriving.{ArrivalOutcome, arrival-outcome, arrived-data, arrived-ack, data-goes-on, unwritten, answers as leaves}
 use Rattle.arrival.proofs.Arriving.ArrivalOutcome.{test-came, accept-undue, accept-bad, accept-came}
 use Rattle.delivery.specs.End.{End, Told, Taken}
 use Rattle.delivery.specs.Line.{Line, lineAfter, unmoved, lineTake, lineArrive, lineBuffered, takeNumber}
@@ -214,7 +214,7 @@ module _ (limit : ℕ) (carried : Telegram → Type 0) (N F : End) (R : N .State
     ack-line = rw (kind, arrived-ack, heard-ack)
 
     ack-buffer : lineBuffered limit (line nc true) (g .bytes) b ≡ b
-    ack-buffer = rw (kind, received-other limit (nc .receiver) (drop 1 (g .bytes)) (length b) (Ack ready number) tt) (buffered-unused (nc .receiver) NoData (drop 1 (g .bytes)) b refl)
+    ack-buffer = rw kind (unwritten limit nc (Ack ready number) (drop 1 (g .bytes)) b tt)
 
     ack-forth : {fate : Fate} {left : List Flying} (n : Hearing) (s : Sender) → heardAck ≡ record { note = n; sender = s } → Left g behind fate left
         → going (ackLine n s) left (noted h (said (ackAnswer n) .done) (said (ackAnswer n) .number)) ≡ move limit (going (line nc true) (g ∷ behind) h) (hear fate)
@@ -296,9 +296,7 @@ module _ (limit : ℕ) (carried : Telegram → Type 0) (N F : End) (R : N .State
       nothing (λ _ _ c. same-counts (changed ts ac) true true (r .state) refl (λ z. z) t (e .tied) c) refl refl untested
 
   aside-buffer : Aside (sorted (g .bytes) .kind) → lineBuffered limit (line nc true) (g .bytes) b ≡ b
-  aside-buffer s =
-      rw (received-other limit (nc .receiver) (drop 1 (g .bytes)) (length b) (sorted (g .bytes) .kind) (s .not-data))
-      (buffered-unused (nc .receiver) NoData (drop 1 (g .bytes)) b refl)
+  aside-buffer s = unwritten limit nc (sorted (g .bytes) .kind) (drop 1 (g .bytes)) b (s .not-data)
 
   -- what a test or an A1 leaves: other tests, and its own A1 due or not
   abbrev OtherTests : Answered → Type 0

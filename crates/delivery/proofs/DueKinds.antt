@@ -2,7 +2,7 @@
 use Prim.Native.Nat.{ℕ, _%_}
 use native.Mathlib.Omega.{arith}
 use native.Mathlib.Nat.{mod-mod, mod-lt}
-use mathlib.Core.Bool.{Bool, true, false≢true}
+use mathlib.Core.Bool.{Bool, true, false, false≢true}
 use mathlib.Core.List.{List}
 use mathlib.Core.Path.{_≡_, refl, sym, subst}
 use Rattle.telegram.specs.Outgoing.{bytesOf}
@@ -31,7 +31,7 @@ sorted-as : {x y : Sorted} → x ≡ y → Carried (y .kind) → Carried (x .kin
 sorted-as e k = subst (λ (x : Sorted). Carried (x .kind)) (sym e) k
 
 -- an Ack is sorted as one with its number modulo 16
-pub ack-any : (ready : Bool) (n : ℕ) → sorted (bytesOf (ackOf ready n)) ≡ record { kind = Ack ready (n % 16) }
+pub ack-any : (ready : Bool) (n : ℕ) → sorted (bytesOf (ackOf ready n)) ≡ record { kind = Ack ready (n % 16); padded = false }
 ack-any ready n = rw (mod-mod n 16) at (ack-sorted ready (n % 16) (mod-lt n (omega arith)))
 
 -- a frame of the sending half is sorted as data

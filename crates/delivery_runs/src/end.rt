@@ -298,12 +298,9 @@ fn repeats_end(channel: Channel, tenths: u64) -> bool {
 pub(crate) fn arrived(end: Channel, payload: Payload, buffer: &mut [u8]) -> Answered {
     let all = payload.bytes;
     let telegram = reading::part(&all, 0, payload.len);
-    arrival::arrive(
-        end,
-        kinds::sort(telegram),
-        reading::part(telegram, 1, 8),
-        buffer,
-    )
+    let sorted = kinds::sort(telegram);
+    let kind = sorted.kind;
+    arrival::arrive(end, kind, reading::part(telegram, 1, 8), buffer)
 }
 
 // The same, with an end's whole buffer.

@@ -8,9 +8,11 @@
 --     both                                both parts of a test that passed
 --     and-first, and-second               each of them, as `search` takes them
 --     or-first, or-second                 each part of a test that failed
+--     neither                             a number that is none of two
 use Prim.Native.Nat.{ℕ, min, _<_, _≤_}
 use native.Mathlib.Omega.{arith}
 use mathlib.Core.Bool.{Bool, true, false, cond, not, _&&_, _||_, true≢false, false≢true}
+use mathlib.Core.Logic.{_≢_}
 use mathlib.Core.Path.{_≡_, refl}
 use lib.Dec.{ltb, leb, eqb}
 use borrow.Author.Tests.{ltb-true, ltb-false, leb-true, leb-false, eqb-true, eqb-false}
@@ -67,3 +69,6 @@ or-first false t e = refl
 pub or-second : (s t : Bool) → (s || t) ≡ false → t ≡ false
 or-second true t e = absurd (true≢false e)
 or-second false t e = e
+
+pub neither : (n a b : ℕ) → (eqb n a || eqb n b) ≡ false → (n ≢ a) × (n ≢ b)
+neither n a b e = (eqb-false n a (or-first (eqb n a) (eqb n b) e), eqb-false n b (or-second (eqb n a) (eqb n b) e))

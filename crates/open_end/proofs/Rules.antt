@@ -6,7 +6,7 @@ use mathlib.Core.List.{List, [], _∷_}
 use mathlib.Core.Path.{_≡_, refl}
 use lib.ListN.{length}
 use borrow.Author.Tests.{lt-ltb, le-ltb}
-use Rattle.telegram.specs.Kinds.{sorted}
+use Rattle.telegram.specs.declared.kinds.Telegram.{Telegram}
 use Rattle.receiver.specs.Receiving.{received, buffered, took}
 use Rattle.receiver.specs.declared.Cause.{Cause}
 use Rattle.receiver.specs.declared.Receiver.{Receiver}
@@ -153,18 +153,18 @@ freshEnd-is transmit receive p = refl
 
 -- ---- the calls
 
-module _ (limit : ℕ) (e : OpenEnd) (b : ℕ) (p : List ℕ) where
-  -- a frame is sorted whole, and its payload is what stands behind its first byte; the IDs stay
-  pub arrivedAt-is : (room : ℕ) → (let r = arrived limit (e .channel) (sorted (b ∷ p) .kind) p room in
-      arrivedAt limit e (b ∷ p) room
+module _ (limit : ℕ) (e : OpenEnd) (t : Telegram) (b : ℕ) (p : List ℕ) where
+  -- a telegram's payload is what stands behind its first byte; the IDs stay
+  pub arrivedAt-is : (room : ℕ) → (let r = arrived limit (e .channel) t p room in
+      arrivedAt limit e t (b ∷ p) room
       ≡ record { answer = r .answer; end = record { transmit = e .transmit; receive = e .receive; channel = r .channel } })
   unfolding arrivedAt
   arrivedAt-is room = refl
 
   -- so is what it writes
   pub bufferedAt-is : (buffer : List ℕ)
-      → bufferedAt limit e (b ∷ p) buffer
-      ≡ buffered (e .channel .receiver) (received limit (e .channel .receiver) (sorted (b ∷ p) .kind) p (length buffer) .note) p buffer
+      → bufferedAt limit e t (b ∷ p) buffer
+      ≡ buffered (e .channel .receiver) (received limit (e .channel .receiver) t p (length buffer) .note) p buffer
   unfolding bufferedAt
   bufferedAt-is buffer = refl
 

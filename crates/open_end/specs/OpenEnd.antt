@@ -1,4 +1,4 @@
--- 01, "Telegrams on an open connection": what an end does once it is open, by the bytes of its frames and on its two CAN IDs.
+-- 01, "Telegrams on an open connection": what an end does once it is open, by its telegrams and on its two CAN IDs.
 use Prim.Native.Nat.{ℕ}
 use mathlib.Core.Bool.{Bool}
 use mathlib.Core.List.{List, []}
@@ -6,7 +6,7 @@ use lib.ListN.{drop}
 use lib.Dec.{eqb}
 use Rattle.laws.specs.If.{if_then_else_}
 use Rattle.telegram.specs.Outgoing.{payloadOf}
-use Rattle.telegram.specs.Kinds.{sorted}
+use Rattle.telegram.specs.declared.kinds.Telegram.{Telegram}
 use Rattle.telegram.specs.declared.payload.Payload.{Payload}
 use Rattle.receiver.specs.Receiving.{took}
 use Rattle.receiver.specs.declared.Taking.{Taking}
@@ -23,7 +23,6 @@ use Rattle.open_end.specs.declared.OpenEnd.{OpenEnd}
 use Rattle.open_end.specs.declared.Course.{Course}
 use Rattle.open_end.specs.declared.Course.the-variants.{GoesOn, GivenUp, Leaves}
 use Rattle.open_end.specs.declared.Answered.{Answered}
-use Rattle.open_end.specs.declared.Arrived.{Arrived}
 use Rattle.open_end.specs.declared.Due.{Due}
 use Rattle.open_end.specs.declared.TakeStep.{TakeStep}
 
@@ -58,15 +57,13 @@ withChannel e ch = record { transmit = e .transmit; receive = e .receive; channe
 unfoldable pub courseOf : Answer → Course
 courseOf a = if eqb (said a .number) 8 then GivenUp else if said a .disconnected then Leaves else GoesOn
 
--- a frame with the bytes s, lent a buffer of room bytes: what its telegram does to the channel
-unfoldable pub arrivedAt : (limit : ℕ) → OpenEnd → (s : List ℕ) → (room : ℕ) → Arrived
-arrivedAt limit e s room =
-    (let r = arrived limit (e .channel) (sorted s .kind) (drop 1 s) room in
-    record { answer = r .answer; end = withChannel e (r .channel) })
+-- a frame with the bytes s, sorted as t, lent a buffer of room bytes: what its telegram does to the channel
+unfoldable pub arrivedAt : (limit : ℕ) → OpenEnd → Telegram → (s : List ℕ) → (room : ℕ) → Answered
+arrivedAt limit e t s room = (let r = arrived limit (e .channel) t (drop 1 s) room in record { answer = r .answer; end = withChannel e (r .channel) })
 
 -- the lent buffer after it
-unfoldable pub bufferedAt : (limit : ℕ) → OpenEnd → (s b : List ℕ) → List ℕ
-bufferedAt limit e s b = bufferedBy limit (e .channel) (sorted s .kind) (drop 1 s) b
+unfoldable pub bufferedAt : (limit : ℕ) → OpenEnd → Telegram → (s b : List ℕ) → List ℕ
+bufferedAt limit e t s b = bufferedBy limit (e .channel) t (drop 1 s) b
 
 -- time passes
 unfoldable pub elapsedAt : OpenEnd → ℕ → Answered

@@ -12,7 +12,7 @@ use receiver::Taking;
 use sender::Terms;
 use telegram::cutting::Message;
 use telegram::kinds::Parameters as Fields;
-use telegram::kinds::sort;
+use telegram::kinds::Telegram;
 use telegram::payload::Payload;
 
 pub mod answers;
@@ -41,12 +41,6 @@ pub enum Course {
 
 // What a call answers, and the end that it leaves.
 pub struct Answered {
-    pub answer: channel::Answer,
-    pub end: OpenEnd,
-}
-
-// What a frame that arrives is answered with, and the end that it leaves.
-pub struct Arrived {
     pub answer: channel::Answer,
     pub end: OpenEnd,
 }
@@ -179,17 +173,17 @@ impl OpenEnd {
         }
     }
 
-    // The bytes of a frame arrive, and a buffer is lent.
-    pub fn arrive(mut self, bytes: &[u8], buffer: &mut [u8]) -> Arrived
-        ensures { λ r. ⌜ r ≡ arrivedAt longest self (now (bytes .entry)) (length (now (buffer .entry))) ⌝ }
-        ensures { λ r. ⌜ now (buffer .exit) ≡ bufferedAt longest self (now (bytes .entry)) (now (buffer .entry)) ⌝ }
+    // A sorted telegram arrives, with all its bytes, and a buffer is lent.
+    pub fn arrive(mut self, telegram: Telegram, bytes: &[u8], buffer: &mut [u8]) -> Answered
+        ensures { λ r. ⌜ r ≡ arrivedAt longest self telegram (now (bytes .entry)) (length (now (buffer .entry))) ⌝ }
+        ensures { λ r. ⌜ now (buffer .exit) ≡ bufferedAt longest self telegram (now (bytes .entry)) (now (buffer .entry)) ⌝ }
     {
         let ch = self.channel;
-        let r = arrival::arrive(ch, sort(bytes), behind_first(bytes), buffer);
+        let r = arrival::arrive(ch, telegram, behind_first(bytes), buffer);
         let answer = r.answer;
         let next = r.channel;
         self.channel = next;
-        Arrived { answer, end: self }
+        Answered { answer, end: self }
     }
 
     // Time passes.

@@ -177,9 +177,12 @@ reply-named s receive h = go (reply-reads s h receive (replyRead s receive) .0 r
     go (formed (as-refused opcode a b c d e low high f)) = tt
     go (formless none) = tt
 
--- an arrival leads to a stage
-abbrev Leads : (limit : ℕ) → Tally → Arrived → Type 0
+-- an answer leads to a stage, and so does an arrival
+abbrev Leads : (limit : ℕ) → Tally → Answered → Type 0
 Leads limit t x = Stage limit t (x .connection)
+
+abbrev Comes : (limit : ℕ) → Tally → Arrived → Type 0
+Comes limit t x = Stage limit t (x .connection)
 
 -- the D0 leads on to the A0; a refusal closes
 reply-stage : {limit : ℕ} {t : Settings} {a : Attempt} {k : ℕ} → InRange t → Asking (t .mntc) a k → (r : Reply) → Named r
@@ -238,11 +241,11 @@ unfolding arrived onOpen arrivedAt
 comes-stage limit id s room h (at-rest f) = at-rest f
 comes-stage limit id s room h (leaving f x) = leaving f x
 comes-stage {t} {c} limit id s room h (requesting {s = own} f a) =
-    by-not (Leads limit t) (hears c id) (λ _. requesting f a) (λ _. reply-stage f a (replyRead s (own .receive)) (reply-named s (own .receive) h))
+    by-not (Comes limit t) (hears c id) (λ _. requesting f a) (λ _. reply-stage f a (replyRead s (own .receive)) (reply-named s (own .receive) h))
 comes-stage {t} {c} limit id s room h (agreeing f k a x) =
-    by-not (Leads limit t) (hears c id) (λ _. agreeing f k a x) (λ _. agrees-stage f k a x (sorted s .kind))
+    by-not (Comes limit t) (hears c id) (λ _. agreeing f k a x) (λ _. agrees-stage f k a x (sorted s .kind))
 comes-stage {t} {c} limit id s room h (talking {ch = ch} f k l x o) =
-    by-not (Leads limit t) (hears c id) (λ _. talking f k l x o)
+    by-not (Comes limit t) (hears c id) (λ _. talking f k l x o)
     (λ _. settles-stage ch f k l x (courseOf (channelArrived limit ch (sorted s .kind) (drop 1 s) room .answer)) (arrived-open o (sorted s .kind) (drop 1 s) room (rest-bytes s h)))
 
 -- ---- every list of calls

@@ -2,18 +2,19 @@
 use Prim.Native.Nat.{ℕ, _≤_, _<_}
 use native.Mathlib.Omega.{arith}
 use mathlib.Core.Bool.{Bool, true, false}
-use mathlib.Core.List.{List}
-use mathlib.Core.Path.{_≡_, refl, sym, ap, _∙_}
+use mathlib.Core.List.{List, [], _∷_}
+use mathlib.Core.Path.{_≡_, refl, sym, ap, subst, _∙_}
 use lib.ListN.{length, take, set}
 use Rattle.telegram.specs.Outgoing.{bytesOf}
-use Rattle.telegram.specs.Kinds.{ackOf, testOf, disconnectOf, setupOf, acceptOf}
+use Rattle.telegram.specs.Kinds.{sorted, ackOf, testOf, disconnectOf, setupOf, acceptOf}
 use Rattle.telegram.specs.Cutting.{cutting}
-use Rattle.telegram.specs.Forms.{Taken, formed, Form, as-ack, as-test, as-disconnect, as-setup, as-accept}
+use Rattle.telegram.specs.Forms.{Taken, formed, formless, firstByte, ack, test, break, disconnect, accept, Filled, bare, filled, Form, as-data, as-fillable, as-setup, Formed, malformed}
 use Rattle.telegram.specs.declared.kinds.Parameters.{Parameters}
 use Rattle.telegram.specs.declared.kinds.Sorted.{Sorted}
-use Rattle.telegram.specs.declared.kinds.Telegram.the-variants.{Ack, Test, Disconnect, Setup, Accept, Malformed}
+use Rattle.telegram.specs.declared.kinds.Telegram.{Telegram}
+use Rattle.telegram.specs.declared.kinds.Telegram.the-variants.{Data, Ack, Test, Break, Disconnect, Setup, Accept, Malformed}
 use Rattle.telegram.proofs.RoundTrip.{ack-sorted, test-sorted, disconnect-sorted, setup-sorted, accept-sorted}
-use Rattle.telegram.proofs.Forms.{sorts}
+use Rattle.telegram.proofs.Forms.{own-sorted, filled-sorted, sorts}
 use Rattle.telegram.proofs.Cut.{published, cutting-length}
 use Rattle.telegram.proofs.Rules.{declares-only, writes, cut}
 use Rattle.opening.specs.Opening.{requestOf, replyOf}
@@ -35,24 +36,49 @@ use Rattle.reading.proofs.Whole.{reads-cutting, reads-flagged, read-sho
 
 -- what a reader takes
 
-kind : {x y : Sorted} → x ≡ y → x .kind ≡ y .kind
-kind e = ap (λ (x : Sorted). x .kind) e
+ack-only : {s : List ℕ} {ready : Bool} {n : ℕ} {padded : Bool} → Form s (Ack ready n) padded → (n < 16) × Filled s (bytesOf (ackOf ready n)) padded
+ack-only (as-fillable own k b (ack true n h) f) = (h, rw (writes .ready n h) f)
+ack-only (as-fillable own k b (ack false n h) f) = (h, rw (writes .notReady n h) f)
 
-ack-only : {s : List ℕ} {ready : Bool} {n : ℕ} → Taken (Form s) Malformed (Ack ready n) → (n < 16) × (s ≡ bytesOf (ackOf ready n))
-ack-only (formed (as-ack true n h e)) = (h, e ∙ sym (writes .ready n h))
-ack-only (formed (as-ack false n h e)) = (h, e ∙ sym (writes .notReady n h))
+test-only : {s : List ℕ} {padded : Bool} → Form s Test padded → Filled s (bytesOf testOf) padded
+test-only (as-fillable own k b test f) = f
 
-test-only : {s : List ℕ} → Taken (Form s) Malformed Test → s ≡ bytesOf testOf
-test-only (formed (as-test e)) = e
+break-only : {s : List ℕ} {padded : Bool} → Form s Break padded → Filled s (0xA4 ∷ []) padded
+break-only (as-fillable own k b break f) = f
 
-disconnect-only : {s : List ℕ} → Taken (Form s) Malformed Disconnect → s ≡ bytesOf disconnectOf
-disconnect-only (formed (as-disconnect e)) = e
+disconnect-only : {s : List ℕ} {padded : Bool} → Form s Disconnect padded → Filled s (bytesOf disconnectOf) padded
+disconnect-only (as-fillable own k b disconnect f) = f
 
-setup-only : {s : List ℕ} {p : Parameters} → Taken (Form s) Malformed (Setup p) → set (set s 3 0xFF) 5 0xFF ≡ bytesOf (setupOf p)
-setup-only (formed (as-setup p t2 t4 e)) = rw e
+setup-only : {s : List ℕ} {p : Parameters} {padded : Bool} → Form s (Setup p) padded → (padded ≡ false) × (set (set s 3 0xFF) 5 0xFF ≡ bytesOf (setupOf p))
+setup-only (as-setup p t2 t4 e) = (refl, rw e)
+setup-only (as-fillable own k b c f) = elim c [ ]
 
-accept-only : {s : List ℕ} {p : Parameters} → Taken (Form s) Malformed (Accept p) → set (set s 3 0xFF) 5 0xFF ≡ bytesOf (acceptOf p)
-accept-only (formed (as-accept p t2 t4 e)) = rw e
+accept-only : {s : List ℕ} {p : Parameters} {padded : Bool} → Form s (Accept p) padded → Filled (set (set s 3 0xFF) 5 0xFF) (bytesOf (acceptOf p)) padded
+accept-only (as-fillable own k b (accept p t2 t4) (bare e)) = bare (rw e)
+accept-only (as-fillable own k b (accept p t2 t4) (filled content e l)) = rw e (filled content refl (rw e at l))
+
+data-only : {s : List ℕ} {asks last : Bool} {n : ℕ} {padded : Bool} → Form s (Data asks last n) padded → (padded ≡ false) × (n < 16) × (take 1 s ≡ firstByte asks last n ∷ [])
+data-only (as-data asks last n p h some few e) = (refl, h, rw e)
+data-only (as-fillable own k b c f) = elim c [ ]
+
+-- a kind, and not what is badly formed
+abbrev IsKind : Telegram → Type 0
+IsKind (Data asks last n) = Unit
+IsKind (Ack ready n) = Unit
+IsKind Test = Unit
+IsKind Break = Unit
+IsKind Disconnect = Unit
+IsKind (Setup p) = Unit
+IsKind (Accept p) = Unit
+IsKind Malformed = ⊥
+
+-- a telegram that is sorted into a kind has its form
+form-of : {t : Telegram} {padded : Bool} → IsKind t → (s : List ℕ) → sorted s ≡ record { kind = t; padded = padded } → Form s t padded
+form-of {t} {padded} some s e = go (sorts s _ .0 e) refl
+  where
+    go : {x : Sorted} → Taken (Formed s) malformed x → x ≡ record { kind = t; padded = padded } → Form s t padded
+    go (formed f) same = subst (Formed s) same f
+    go (formless none) same = absurd (subst (λ (x : Sorted). IsKind (x .kind)) (sym same) some)
 
 request-only : {s : List ℕ} {unit receive : ℕ} → Taken (RequestForm s) NoRequest (Open unit receive) → (receive < 0x800) × (s ≡ bytesOf (requestOf unit receive))
 request-only (formed (as-open u r h e)) = (h, e ∙ sym (opening-writes .request u r h))
@@ -97,19 +123,22 @@ demand2 limit twelve =
       declares = declares-only;
       writes = writes;
       opens = opening-writes;
-      ackBack = λ ready n h. kind (ack-sorted ready n h);
-      testBack = kind test-sorted;
-      disconnectBack = kind disconnect-sorted;
-      setupBack = λ p. kind (setup-sorted p);
-      acceptBack = λ p. kind (accept-sorted p);
+      twoForms = λ own content t c l. (own-sorted c, filled-sorted c content l);
+      ackBack = ack-sorted;
+      testBack = test-sorted;
+      disconnectBack = disconnect-sorted;
+      setupBack = setup-sorted;
+      acceptBack = accept-sorted;
       requestBack = request-read;
       positiveBack = positive-read;
       refusedBack = λ o r t own h k. refused-read o r t own (refusal-exactly o .1 (h, k));
-      ackOnly = λ s ready n e. ack-only (sorts s (Ack ready n) .0 e);
-      testOnly = λ s e. test-only (sorts s Test .0 e);
-      disconnectOnly = λ s e. disconnect-only (sorts s Disconnect .0 e);
-      setupOnly = λ s p e. setup-only (sorts s (Setup p) .0 e);
-      acceptOnly = λ s p e. accept-only (sorts s (Accept p) .0 e);
+      ackOnly = λ s ready n p e. ack-only (form-of tt s e);
+      testOnly = λ s p e. test-only (form-of tt s e);
+      breakOnly = λ s p e. break-only (form-of tt s e);
+      disconnectOnly = λ s p e. disconnect-only (form-of tt s e);
+      setupOnly = λ s f p e. setup-only (form-of tt s e);
+      acceptOnly = λ s f p e. accept-only (form-of tt s e);
+      dataOnly = λ s asks last n p e. data-only (form-of tt s e);
       requestOnly = λ s b u r e. request-only (request-reads s b (Open u r) .0 e);
       positiveOnly = λ s b r t e. positive-only (reply-reads s b r (Positive t) .0 e);
       refusedOnly = λ s b r o t e. refused-only t (reply-reads s b r (Refused o) .0 e);

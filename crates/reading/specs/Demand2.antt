@@ -1,19 +1,20 @@
 -- Demand 2: telegrams and opening frames in bytes, both ways; the cutting; and a message sent and read back.
 use Prim.Native.Nat.{ℕ, _+_, _*_, _%_, _≤_, _<_}
-use mathlib.Core.Bool.{Bool}
+use mathlib.Core.Bool.{Bool, true, false}
 use mathlib.Core.Logic.{_↔_}
 use mathlib.Core.Path.{_≡_}
-use mathlib.Core.List.{List, [], _∷_}
+use mathlib.Core.List.{List, [], _∷_, _++_}
 use lib.ListN.{length, take, set, getD}
 use Rattle.telegram.specs.Outgoing.{bytesOf}
 use Rattle.telegram.specs.Kinds.{sorted, ackOf, testOf, disconnectOf, setupOf, acceptOf}
 use Rattle.telegram.specs.Cutting.{declaredOf, cutting}
 use Rattle.telegram.specs.Published.{Published}
-use Rattle.telegram.specs.Forms.{Bytes, Taken, Form, Declares, Writes, CutInBytes}
+use Rattle.telegram.specs.Forms.{Bytes, Taken, firstByte, Fillable, Filled, Formed, malformed, Declares, Writes, CutInBytes}
 use Rattle.telegram.specs.declared.cutting.Message.{Message}
 use Rattle.telegram.specs.declared.kinds.Parameters.{Parameters}
+use Rattle.telegram.specs.declared.kinds.Sorted.{Sorted}
 use Rattle.telegram.specs.declared.kinds.Telegram.{Telegram}
-use Rattle.telegram.specs.declared.kinds.Telegram.the-variants.{Ack, Test, Disconnect, Setup, Accept, Malformed}
+use Rattle.telegram.specs.declared.kinds.Telegram.the-variants.{Data, Ack, Test, Break, Disconnect, Setup, Accept}
 use Rattle.opening.specs.Opening.{requestOf, replyOf, requestRead, replyRead}
 use Rattle.opening.specs.Forms.{RequestForm, ReplyForm, OpeningWrites}
 use Rattle.opening.specs.declared.Request.{Request}
@@ -65,8 +66,8 @@ flagged flags [] = []
 flagged flags (s ∷ rest) = flaggedFrame flags s ∷ rest
 
 pub record Demand2 (limit : ℕ) : Type 0 where
-  -- a telegram is of a kind exactly if it has the bytes of that kind, data by its first byte and length, a break by its one byte; all else is badly formed
-  pub sorts : (s : List ℕ) (t : Telegram) → sorted s .kind ≡ t ↔ Taken (Form s) Malformed t
+  -- a telegram is of a kind, padded or not, exactly if it has the bytes of that kind: data by its first byte and length, a control telegram by its own bytes, alone or filled up to 8 (02, 4); all else is badly formed
+  pub sorts : (s : List ℕ) (t : Sorted) → sorted s ≡ t ↔ Taken (Formed s) malformed t
   -- so it is with the C0 request
   pub requests : (s : List ℕ) → Bytes s → (q : Request) → requestRead s ≡ q ↔ Taken (RequestForm s) NoRequest q
   -- and with its replies, read by the end that asked
@@ -77,32 +78,48 @@ pub record Demand2 (limit : ℕ) : Type 0 where
   pub writes : Writes
   -- the bytes of C0, D0 and D6 to D8
   pub opens : OpeningWrites
-  -- what is written reads back as it was: an Ack
-  pub ackBack : (ready : Bool) (n : ℕ) → n < 16 → sorted (bytesOf (ackOf ready n)) .kind ≡ Ack ready n
+  -- "reading has two forms for these kinds" (02, 4): at its own length, and with any content that fills it up to 8 bytes
+  pub twoForms :
+      (own content : List ℕ) (t : Telegram) → Fillable own t → length (own ++ content) ≡ 8 →
+      (sorted own ≡ record { kind = t; padded = false }) × (sorted (own ++ content) ≡ record { kind = t; padded = true })
+  -- "and writing has one, unpadded" (02, 4); what is written reads back as it was: an Ack
+  pub ackBack : (ready : Bool) (n : ℕ) → n < 16 → sorted (bytesOf (ackOf ready n)) ≡ record { kind = Ack ready n; padded = false }
   -- a test
-  pub testBack : sorted (bytesOf testOf) .kind ≡ Test
+  pub testBack : sorted (bytesOf testOf) ≡ record { kind = Test; padded = false }
   -- a disconnect
-  pub disconnectBack : sorted (bytesOf disconnectOf) .kind ≡ Disconnect
+  pub disconnectBack : sorted (bytesOf disconnectOf) ≡ record { kind = Disconnect; padded = false }
   -- an A0
-  pub setupBack : (p : Parameters) → sorted (bytesOf (setupOf p)) .kind ≡ Setup p
+  pub setupBack : (p : Parameters) → sorted (bytesOf (setupOf p)) ≡ record { kind = Setup p; padded = false }
   -- an A1
-  pub acceptBack : (p : Parameters) → sorted (bytesOf (acceptOf p)) .kind ≡ Accept p
+  pub acceptBack : (p : Parameters) → sorted (bytesOf (acceptOf p)) ≡ record { kind = Accept p; padded = false }
   -- a C0
   pub requestBack : (unit receive : ℕ) → receive < 0x800 → requestRead (bytesOf (requestOf unit receive)) ≡ Open unit receive
   -- a D0
   pub positiveBack : (receive transmit : ℕ) → receive < 0x800 → transmit < 0x800 → replyRead (bytesOf (replyOf 0xD0 receive transmit)) receive ≡ Positive transmit
   -- a D6, D7 or D8, whatever IDs stand in it
   pub refusedBack : (opcode receive transmit own : ℕ) → 0xD6 ≤ opcode → opcode ≤ 0xD8 → replyRead (bytesOf (replyOf opcode receive transmit)) own ≡ Refused opcode
-  -- what a reader takes is what a writer writes: an Ack
-  pub ackOnly : (s : List ℕ) (ready : Bool) (n : ℕ) → sorted s .kind ≡ Ack ready n → (n < 16) × (s ≡ bytesOf (ackOf ready n))
+  -- what a reader takes is what a writer writes, up to the content that fills it, and the mark says whether any does: an Ack
+  pub ackOnly :
+      (s : List ℕ) (ready : Bool) (n : ℕ) (padded : Bool) → sorted s ≡ record { kind = Ack ready n; padded = padded } →
+      (n < 16) × Filled s (bytesOf (ackOf ready n)) padded
   -- a test
-  pub testOnly : (s : List ℕ) → sorted s .kind ≡ Test → s ≡ bytesOf testOf
+  pub testOnly : (s : List ℕ) (padded : Bool) → sorted s ≡ record { kind = Test; padded = padded } → Filled s (bytesOf testOf) padded
+  -- a break, which is never written
+  pub breakOnly : (s : List ℕ) (padded : Bool) → sorted s ≡ record { kind = Break; padded = padded } → Filled s (0xA4 ∷ []) padded
   -- a disconnect
-  pub disconnectOnly : (s : List ℕ) → sorted s .kind ≡ Disconnect → s ≡ bytesOf disconnectOf
-  -- an A0, once its T2 and T4 are FF
-  pub setupOnly : (s : List ℕ) (p : Parameters) → sorted s .kind ≡ Setup p → set (set s 3 0xFF) 5 0xFF ≡ bytesOf (setupOf p)
-  -- an A1 likewise
-  pub acceptOnly : (s : List ℕ) (p : Parameters) → sorted s .kind ≡ Accept p → set (set s 3 0xFF) 5 0xFF ≡ bytesOf (acceptOf p)
+  pub disconnectOnly : (s : List ℕ) (padded : Bool) → sorted s ≡ record { kind = Disconnect; padded = padded } → Filled s (bytesOf disconnectOf) padded
+  -- an A0, once its T2 and T4 are FF; it is never padded
+  pub setupOnly :
+      (s : List ℕ) (p : Parameters) (padded : Bool) → sorted s ≡ record { kind = Setup p; padded = padded } →
+      (padded ≡ false) × (set (set s 3 0xFF) 5 0xFF ≡ bytesOf (setupOf p))
+  -- an A1, once its T2 and T4 are FF
+  pub acceptOnly :
+      (s : List ℕ) (p : Parameters) (padded : Bool) → sorted s ≡ record { kind = Accept p; padded = padded } →
+      Filled (set (set s 3 0xFF) 5 0xFF) (bytesOf (acceptOf p)) padded
+  -- of data its first byte; it is never padded
+  pub dataOnly :
+      (s : List ℕ) (asks last : Bool) (n : ℕ) (padded : Bool) → sorted s ≡ record { kind = Data asks last n; padded = padded } →
+      (padded ≡ false) × (n < 16) × (take 1 s ≡ firstByte asks last n ∷ [])
   -- a C0
   pub requestOnly : (s : List ℕ) → Bytes s → (unit receive : ℕ) → requestRead s ≡ Open unit receive → (receive < 0x800) × (s ≡ bytesOf (requestOf unit receive))
   -- a D0 with our own receive ID

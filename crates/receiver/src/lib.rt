@@ -14,7 +14,6 @@ use telegram::cutting::LONGEST;
 use telegram::cutting::Message;
 use telegram::cutting::NONE;
 use telegram::cutting::declared;
-use telegram::kinds::Sorted;
 use telegram::kinds::Telegram;
 
 // Where the receiver stands between two frames.
@@ -192,9 +191,9 @@ impl Receiver {
     }
 
     // A sorted telegram arrives, with the bytes behind its first one; a used frame's go into the lent buffer.
-    pub fn receive(self, telegram: Sorted, payload: &[u8], buffer: &mut [u8]) -> Received
-        ensures { λ r. ⌜ r ≡ received longest self (telegram .kind) (now (payload .entry)) (length (now (buffer .entry))) ⌝ }
-        ensures { λ _. ⌜ now (buffer .exit) ≡ buffered self (received longest self (telegram .kind) (now (payload .entry)) (length (now (buffer .entry))) .note) (now (payload .entry)) (now (buffer .entry)) ⌝ }
+    pub fn receive(self, telegram: Telegram, payload: &[u8], buffer: &mut [u8]) -> Received
+        ensures { λ r. ⌜ r ≡ received longest self telegram (now (payload .entry)) (length (now (buffer .entry))) ⌝ }
+        ensures { λ _. ⌜ now (buffer .exit) ≡ buffered self (received longest self telegram (now (payload .entry)) (length (now (buffer .entry))) .note) (now (payload .entry)) (now (buffer .entry)) ⌝ }
     {
         let received = self.judge(telegram, payload, buffer.len());
         let note = received.note;
@@ -212,11 +211,10 @@ impl Receiver {
     }
 
     // What becomes of a telegram, in a buffer of room bytes.
-    fn judge(self, telegram: Sorted, payload: &[u8], room: usize) -> Received
-        ensures { λ r. ⌜ r ≡ received longest self (telegram .kind) (now (payload .entry)) room ⌝ }
+    fn judge(self, telegram: Telegram, payload: &[u8], room: usize) -> Received
+        ensures { λ r. ⌜ r ≡ received longest self telegram (now (payload .entry)) room ⌝ }
     {
-        let kind = telegram.kind;
-        let Telegram::Data { asks, last, number } = kind else {
+        let Telegram::Data { asks, last, number } = telegram else {
             return Received {
                 note: Receipt::NoData,
                 receiver: self,

@@ -12,7 +12,6 @@ use telegram::cutting::LONGEST;
 use telegram::cutting::asks_at;
 use telegram::cutting::frame;
 use telegram::cutting::frames;
-use telegram::kinds::Sorted;
 use telegram::kinds::Telegram;
 use telegram::payload::Payload;
 use telegram::time::less;
@@ -183,12 +182,11 @@ impl Sender {
         }
     }
 
-    // A telegram arrives.
-    pub fn hear(self, terms: Terms, telegram: Sorted) -> Heard
-        ensures { λ r. ⌜ r ≡ heard terms self (telegram .kind) ⌝ }
+    // A sorted telegram arrives.
+    pub fn hear(self, terms: Terms, telegram: Telegram) -> Heard
+        ensures { λ r. ⌜ r ≡ heard terms self telegram ⌝ }
     {
-        let kind = telegram.kind;
-        let Telegram::Ack { ready, number } = kind else {
+        let Telegram::Ack { ready, number } = telegram else {
             return Heard {
                 note: Hearing::NoAck,
                 sender: self,

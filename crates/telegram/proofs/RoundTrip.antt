@@ -6,11 +6,11 @@ use mathlib.Core.Bool.{Bool, true, false}
 use mathlib.Core.List.{List, [], _∷_}
 use mathlib.Core.Path.{_≡_, refl, ap, _∙_}
 use lib.Dec.{eqb}
-use lib.ListN.{length, take, drop, getD, replicate, length-append, length-take, length-drop}
+use lib.ListN.{length, take, drop, getD, replicate, length-take, length-drop}
 use lib.Seq.{take-take, take-append-seam}
 use borrow.Author.Tests.{le-leb}
 use Rattle.telegram.specs.Outgoing.{payloadOf, bytesOf}
-use Rattle.telegram.specs.Kinds.{kindOf, sorted, ackOf, testOf, disconnectOf, setupOf, acceptOf}
+use Rattle.telegram.specs.Kinds.{ownOrFilled, kindOf, sorted, ackOf, testOf, disconnectOf, setupOf, acceptOf}
 use Rattle.telegram.specs.Cutting.{declaredOf, streamOf, framesOf, headerOf, lastAt, asksAt, frameAt}
 use Rattle.telegram.specs.declared.cutting.Message.{Message}
 use Rattle.telegram.specs.declared.kinds.Parameters.{Parameters}
@@ -34,35 +34,36 @@ record Halves (q r b : ℕ) : Type 0 where
 halves : (q r : ℕ) → r < 16 → Halves q r (16 * q + r)
 halves q r h = omega arith
 
--- one byte with the upper half 1 0 RS 1 is an Ack
-pub upper-ack : (q r : ℕ) → q / 4 ≡ 2 → q % 2 ≡ 1 → r < 16 → sorted ((16 * q + r) ∷ []) ≡ record { kind = Ack (eqb (q / 2 % 2) 1) r }
+-- a first byte with the upper half 1 0 RS 1 makes an Ack, by itself or filled up
+pub upper-ack : (q r : ℕ) (p : List ℕ) → q / 4 ≡ 2 → q % 2 ≡ 1 → r < 16 → ownOrFilled 1 ((16 * q + r) ∷ p) ≡ true
+    → sorted ((16 * q + r) ∷ p) ≡ record { kind = Ack (eqb (q / 2 % 2) 1) r; padded = eqb (suc (length p)) 8 }
 unfolding kindOf
-upper-ack q r f g h =
+upper-ack q r p f g h l =
     let b = halves q r h in
-    rw (b .bits7-6 ∙ f, b .bits7-4, g, b .bits7-5, b .bits3-0)
+    rw (b .bits7-6 ∙ f, l, b .bits7-4, g, b .bits7-5, b .bits3-0)
 
 -- an Ack is sorted as an Ack that says the same, ready or not, and the same number
-pub ack-sorted : (ready : Bool) (n : ℕ) → n < 16 → sorted (bytesOf (ackOf ready n)) ≡ record { kind = Ack ready n }
-ack-sorted true n h = rw (mod-eq-of-lt h) (upper-ack 11 n refl refl h)
-ack-sorted false n h = rw (mod-eq-of-lt h) (upper-ack 9 n refl refl h)
+pub ack-sorted : (ready : Bool) (n : ℕ) → n < 16 → sorted (bytesOf (ackOf ready n)) ≡ record { kind = Ack ready n; padded = false }
+ack-sorted true n h = rw (mod-eq-of-lt h) (upper-ack 11 n [] refl refl h refl)
+ack-sorted false n h = rw (mod-eq-of-lt h) (upper-ack 9 n [] refl refl h refl)
 
 -- a test is sorted as a test
-pub test-sorted : sorted (bytesOf testOf) ≡ record { kind = Test }
+pub test-sorted : sorted (bytesOf testOf) ≡ record { kind = Test; padded = false }
 unfolding kindOf
 test-sorted = refl
 
 -- a disconnect is sorted as a disconnect
-pub disconnect-sorted : sorted (bytesOf disconnectOf) ≡ record { kind = Disconnect }
+pub disconnect-sorted : sorted (bytesOf disconnectOf) ≡ record { kind = Disconnect; padded = false }
 unfolding kindOf
 disconnect-sorted = refl
 
 -- an A0 is sorted as an A0 with the same fields, whatever they are
-pub setup-sorted : (p : Parameters) → sorted (bytesOf (setupOf p)) ≡ record { kind = Setup p }
+pub setup-sorted : (p : Parameters) → sorted (bytesOf (setupOf p)) ≡ record { kind = Setup p; padded = false }
 unfolding kindOf
 setup-sorted p = refl
 
 -- an A1 is sorted as an A1 with the same fields, whatever they are
-pub accept-sorted : (p : Parameters) → sorted (bytesOf (acceptOf p)) ≡ record { kind = Accept p }
+pub accept-sorted : (p : Parameters) → sorted (bytesOf (acceptOf p)) ≡ record { kind = Accept p; padded = false }
 unfolding kindOf
 accept-sorted p = refl
 
@@ -78,7 +79,7 @@ parameters-length p = (refl, refl)
 
 -- a first byte with the upper half 00 AR EOM, before one to seven others, makes data
 pub upper-data : (q r : ℕ) (p : List ℕ) → q < 4 → r < 16 → 1 ≤ length p → length p ≤ 7
-    → sorted ((16 * q + r) ∷ p) ≡ record { kind = Data (eqb (q / 2 % 2) 0) (eqb (q % 2) 1) r }
+    → sorted ((16 * q + r) ∷ p) ≡ record { kind = Data (eqb (q / 2 % 2) 0) (eqb (q % 2) 1) r; padded = false }
 unfolding kindOf
 upper-data q r p f g h k =
     let b = halves q r g in
@@ -86,7 +87,7 @@ upper-data q r p f g h k =
 
 -- a first byte before one to seven others is sorted as data that says the same
 pub header-sorted : (asks last : Bool) (n : ℕ) (p : List ℕ) → 1 ≤ length p → length p ≤ 7
-    → sorted (headerOf asks last n ∷ p) ≡ record { kind = Data asks last (n % 16) }
+    → sorted (headerOf asks last n ∷ p) ≡ record { kind = Data asks last (n % 16); padded = false }
 unfolding headerOf
 header-sorted true true n p = upper-data 1 (n % 16) p (omega arith) (omega arith)
 header-sorted true false n p = upper-data 0 (n % 16) p (omega arith) (omega arith)
@@ -120,7 +121,7 @@ module _ (m : List ℕ) (block first k : ℕ) where
 
   -- every frame is sorted as data that asks and ends as its place says, with the number that its place says
   pub frame-sorted : k < framesOf (length m)
-      → sorted (bytesOf (frameAt m block first k)) ≡ record { kind = Data (asksAt block (length m) k) (lastAt (length m) k) ((first + k) % 16) }
+      → sorted (bytesOf (frameAt m block first k)) ≡ record { kind = Data (asksAt block (length m) k) (lastAt (length m) k) ((first + k) % 16); padded = false }
   frame-sorted h =
       let b = rw frame-back at (frame-size h) in
       rw frame-back (header-sorted _ _ (first + k) _ (omega arith) (omega arith))

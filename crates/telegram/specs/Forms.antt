@@ -1,7 +1,7 @@
 -- 01, "Telegrams on an open connection" and "Cutting", in bytes. No promise cites these; proofs/Forms.antt and proofs/Rules.antt prove them of what the promises cite.
 use Prim.Native.Nat.{ℕ, _+_, _*_, _/_, _%_, _≤_, _<_}
 use mathlib.Core.Bool.{Bool, true, false}
-use mathlib.Core.List.{List, [], _∷_}
+use mathlib.Core.List.{List, [], _∷_, _++_}
 use mathlib.Core.Logic.{_↔_, _⊎_}
 use mathlib.Core.Path.{_≡_}
 use lib.ListN.{length, take, drop, getD}
@@ -11,8 +11,9 @@ use Rattle.telegram.specs.Kinds.{ackOf, testOf, disconnectOf, setupOf, a
 use Rattle.telegram.specs.Cutting.{cutting}
 use Rattle.telegram.specs.declared.cutting.Message.{Message}
 use Rattle.telegram.specs.declared.kinds.Parameters.{Parameters}
+use Rattle.telegram.specs.declared.kinds.Sorted.{Sorted}
 use Rattle.telegram.specs.declared.kinds.Telegram.{Telegram}
-use Rattle.telegram.specs.declared.kinds.Telegram.the-variants.{Data, Ack, Test, Break, Disconnect, Setup, Accept}
+use Rattle.telegram.specs.declared.kinds.Telegram.the-variants.{Data, Ack, Test, Break, Disconnect, Setup, Accept, Malformed}
 
 -- every element is a byte; past the end stands 0
 abbrev pub Bytes : List ℕ → Type 0
@@ -27,19 +28,38 @@ pub data Taken {A : Type 0} (F : A → Type 0) (malformed : A) : A → Type 0 wh
 abbrev pub firstByte : (asks last : Bool) → (number : ℕ) → ℕ
 firstByte asks last number = (if asks then 0x00 else 0x20) + (if last then 0x10 else 0x00) + number
 
--- the bytes of each kind
-pub data Form (s : List ℕ) : Telegram → Type 0 where
-  -- "Data, 2 to 8 bytes: first byte 00, AR, EOM, number (4 bits)"
-  as-data : (asks last : Bool) (n : ℕ) (p : List ℕ) → n < 16 → 1 ≤ length p → length p ≤ 7 → s ≡ firstByte asks last n ∷ p → Form s (Data asks last n)
+-- an Ack, test, break, disconnect or A1 at its own length: its bytes
+pub data Fillable : List ℕ → Telegram → Type 0 where
   -- "Ack, 1 byte: 1 0 RS 1 number; RS 1 is ready"
-  as-ack : (ready : Bool) (n : ℕ) → n < 16 → s ≡ ((if ready then 0xB0 else 0x90) + n) ∷ [] → Form s (Ack ready n)
+  ack : (ready : Bool) (n : ℕ) → n < 16 → Fillable (((if ready then 0xB0 else 0x90) + n) ∷ []) (Ack ready n)
   -- "One byte each: A3 test, A4 break, A8 disconnect"
-  as-test : s ≡ 0xA3 ∷ [] → Form s Test
-  as-break : s ≡ 0xA4 ∷ [] → Form s Break
-  as-disconnect : s ≡ 0xA8 ∷ [] → Form s Disconnect
-  -- "Six bytes: A0, A1"; "T2 and T4 are read as anything"
-  as-setup : (p : Parameters) (t2 t4 : ℕ) → s ≡ 0xA0 ∷ p .block ∷ p .t1 ∷ t2 ∷ p .t3 ∷ t4 ∷ [] → Form s (Setup p)
-  as-accept : (p : Parameters) (t2 t4 : ℕ) → s ≡ 0xA1 ∷ p .block ∷ p .t1 ∷ t2 ∷ p .t3 ∷ t4 ∷ [] → Form s (Accept p)
+  test : Fillable (0xA3 ∷ []) Test
+  break : Fillable (0xA4 ∷ []) Break
+  disconnect : Fillable (0xA8 ∷ []) Disconnect
+  -- "Six bytes: .. A1"; "T2 and T4 are read as anything"
+  accept : (p : Parameters) (t2 t4 : ℕ) → Fillable (0xA1 ∷ p .block ∷ p .t1 ∷ t2 ∷ p .t3 ∷ t4 ∷ []) (Accept p)
+
+-- "at their own length or at exactly 8 bytes", "any content" filling them up, "and says which" (02, 4)
+pub data Filled (s own : List ℕ) : (padded : Bool) → Type 0 where
+  bare : s ≡ own → Filled s own false
+  filled : (content : List ℕ) → s ≡ own ++ content → length s ≡ 8 → Filled s own true
+
+-- the bytes of each kind, padded or not
+pub data Form (s : List ℕ) : Telegram → (padded : Bool) → Type 0 where
+  -- "Data, 2 to 8 bytes: first byte 00, AR, EOM, number (4 bits)"
+  as-data : (asks last : Bool) (n : ℕ) (p : List ℕ) → n < 16 → 1 ≤ length p → length p ≤ 7 → s ≡ firstByte asks last n ∷ p → Form s (Data asks last n) false
+  -- "Acks, tests, breaks, disconnects and A1"
+  as-fillable : (own : List ℕ) (t : Telegram) (padded : Bool) → Fillable own t → Filled s own padded → Form s t padded
+  -- "Six bytes: A0", and no padded form
+  as-setup : (p : Parameters) (t2 t4 : ℕ) → s ≡ 0xA0 ∷ p .block ∷ p .t1 ∷ t2 ∷ p .t3 ∷ t4 ∷ [] → Form s (Setup p) false
+
+-- the bytes s have the form that t says: that of its kind, padded or not
+abbrev pub Formed : List ℕ → Sorted → Type 0
+Formed s t = Form s (t .kind) (t .padded)
+
+-- what has none of these forms
+abbrev pub malformed : Sorted
+malformed = record { kind = Malformed; padded = false }
 
 -- the two length bytes of a first frame, behind its first byte: four flags above twelve bits of length (02, 1)
 pub record Declares (s : List ℕ) (m : Message) : Type 0 where

@@ -1,6 +1,6 @@
 -- 01, "Telegrams on an open connection": the kinds, and how a telegram is sorted and written.
 use Prim.Native.Nat.{ℕ, _+_, _/_, _%_}
-use mathlib.Core.Bool.{Bool, _&&_, _||_}
+use mathlib.Core.Bool.{Bool, true, false, _&&_, _||_}
 use mathlib.Core.List.{List, [], _∷_}
 use lib.ListN.{length, getD}
 use lib.Dec.{leb, ltb, eqb}
@@ -36,21 +36,36 @@ fields s = record { block = getD s 1 0; t1 = getD s 2 0; t3 = getD s 4 0 }
 unfoldable pub badBlock : ℕ → Bool
 badBlock b = eqb b 0 || ltb 15 b
 
--- data: first byte 00, AR, EOM, number, 2 to 8 bytes, AR 0 asks for an Ack; Ack: 1 0 RS 1 number, 1 byte, RS 1 is ready
+-- "at their own length or at exactly 8 bytes" (02, 4)
+abbrev pub ownOrFilled : (own : ℕ) → List ℕ → Bool
+ownOrFilled own s = eqb (length s) own || eqb (length s) 8
+
+-- data: first byte 00, AR, EOM, number, 2 to 8 bytes, AR 0 asks for an Ack; Ack: 1 0 RS 1 number, 1 byte or filled up to 8, RS 1 is ready
 unfoldable pub kindOf : List ℕ → ℕ → Telegram
 kindOf s b =
     if eqb (top b) 0 && leb 2 (length s) && leb (length s) 8 then Data (eqb (bit5 b) 0) (eqb (bit4 b) 1) (number b)
-    else if eqb (length s) 1 && eqb (top b) 2 && eqb (bit4 b) 1 then Ack (eqb (bit5 b) 1) (number b)
-    else if eqb (length s) 1 && eqb b 0xA3 then Test
-    else if eqb (length s) 1 && eqb b 0xA4 then Break
-    else if eqb (length s) 1 && eqb b 0xA8 then Disconnect
+    else if ownOrFilled 1 s && eqb (top b) 2 && eqb (bit4 b) 1 then Ack (eqb (bit5 b) 1) (number b)
+    else if ownOrFilled 1 s && eqb b 0xA3 then Test
+    else if ownOrFilled 1 s && eqb b 0xA4 then Break
+    else if ownOrFilled 1 s && eqb b 0xA8 then Disconnect
     else if eqb (length s) 6 && eqb b 0xA0 then Setup (fields s)
-    else if eqb (length s) 6 && eqb b 0xA1 then Accept (fields s)
+    else if ownOrFilled 6 s && eqb b 0xA1 then Accept (fields s)
     else Malformed
 
--- a telegram sorted into its kind; one of no bytes is badly formed, like all else
+-- "Acks, tests, breaks, disconnects and A1": the kinds that a gateway fills up to 8 bytes (02, 4)
+abbrev pub fillable : Telegram → Bool
+fillable (Data asks last n) = false
+fillable (Ack ready n) = true
+fillable Test = true
+fillable Break = true
+fillable Disconnect = true
+fillable (Setup p) = false
+fillable (Accept p) = true
+fillable Malformed = false
+
+-- a telegram sorted into its kind, one of no bytes being badly formed, like all else; and whether it is padded: "and says which" (02, 4)
 abbrev pub sorted : List ℕ → Sorted
-sorted s = record { kind = kindOf s (getD s 0 0) }
+sorted s = (let k = kindOf s (getD s 0 0) in record { kind = k; padded = fillable k && eqb (length s) 8 })
 
 -- an Ack: 1 0 RS 1 number
 abbrev pub ackOf : Bool → ℕ → Payload

@@ -1,5 +1,6 @@
 -- 01, "Cutting", sentence by sentence, as facts about the list of frames that `cutting` gives; `published` of proofs/Cut.antt proves them.
 use Prim.Native.Nat.{ℕ, _+_, _%_, _≤_, _<_}
+use mathlib.Core.Bool.{false}
 use mathlib.Core.List.{List, [], map, flatten}
 use mathlib.Core.Path.{_≡_}
 use lib.ListN.{length, drop, getD}
@@ -24,7 +25,7 @@ pub record Published (m : List ℕ) (block first : ℕ) : Type 0 where
   pub size : (k : ℕ) → k < framesOf (length m) → (2 ≤ length (getD (cutting m block first) k [])) × (length (getD (cutting m block first) k []) ≤ 8)
   -- "Receiving" counts a first frame of 2 bytes as broken: this one has the length bytes and a byte of the message at least
   pub begins : 4 ≤ length (getD (cutting m block first) 0 [])
-  -- "Frame number counts on modulo 16", "EOM on the last", "AR on every frame whose place in the message (from 1) is a multiple of the block size, and on the last"
-  pub kinds : (k : ℕ) → k < framesOf (length m) → sorted (getD (cutting m block first) k []) ≡ record { kind = Data (asksAt block (length m) k) (lastAt (length m) k) ((first + k) % 16) }
+  -- "Frame number counts on modulo 16", "EOM on the last", "AR on every frame whose place in the message (from 1) is a multiple of the block size, and on the last"; none is padded, at 8 bytes neither (02, 4)
+  pub kinds : (k : ℕ) → k < framesOf (length m) → sorted (getD (cutting m block first) k []) ≡ record { kind = Data (asksAt block (length m) k) (lastAt (length m) k) ((first + k) % 16); padded = false }
   -- "A repeated frame has the same bytes as at first": each is `frameAt` of its place, which the code gives at every call
   pub frames : (k : ℕ) → k < framesOf (length m) → getD (cutting m block first) k [] ≡ bytesOf (frameAt m block first k)

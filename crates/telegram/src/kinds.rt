@@ -1,6 +1,6 @@
 // Telegrams on a channel: the kinds, how a telegram is sorted into one, and the writers.
 ghost use mathlib.Core.Path.{_≡_};
-ghost use Rattle.telegram.specs.Kinds.{badBlock, sorted, ackOf, testOf, disconnectOf, setupOf, acceptOf};
+ghost use Rattle.telegram.specs.Kinds.{badBlock, fillable, sorted, ackOf, testOf, disconnectOf, setupOf, acceptOf};
 use crate::payload::Payload;
 
 // What an A0 (connection set-up) and an A1 (connection acknowledge) carry: the block size byte and two time codes.
@@ -22,15 +22,44 @@ pub enum Telegram {
     Malformed,
 }
 
+// A telegram's kind, and whether it is a control telegram that is filled up to 8 bytes.
 pub struct Sorted {
     pub kind: Telegram,
+    pub padded: bool,
 }
 
-// Sorts a telegram of any length into its kind.
+// Sorts a telegram of any length into its kind, and says whether it is padded.
 pub fn sort(s: &[u8]) -> Sorted
     ensures { λ r. ⌜ r ≡ sorted (now (s .entry)) ⌝ }
 {
-    Sorted { kind: kind(s) }
+    let kind = kind(s);
+    Sorted {
+        kind,
+        padded: fillable(kind) & (s.len() == 8),
+    }
+}
+
+// Whether a telegram of this kind may be filled up to 8 bytes.
+fn fillable(kind: Telegram) -> bool
+    ensures { λ r. ⌜ r ≡ fillable kind ⌝ }
+{
+    match kind {
+        Telegram::Data {
+            asks: _,
+            last: _,
+            number: _,
+        } => false,
+        Telegram::Ack {
+            ready: _,
+            number: _,
+        } => true,
+        Telegram::Test => true,
+        Telegram::Break => true,
+        Telegram::Disconnect => true,
+        Telegram::Setup(_) => false,
+        Telegram::Accept(_) => true,
+        Telegram::Malformed => false,
+    }
 }
 
 fn kind(s: &[u8]) -> Telegram
@@ -48,25 +77,25 @@ fn kind(s: &[u8]) -> Telegram
             number: b % 16,
         };
     }
-    if n == 1 {
-        if (b / 64 == 2) & (b / 16 % 2 == 1) {
-            return Telegram::Ack {
-                ready: b / 32 % 2 == 1,
-                number: b % 16,
-            };
-        }
-        if b == 0xA3 {
-            return Telegram::Test;
-        }
-        if b == 0xA4 {
-            return Telegram::Break;
-        }
-        if b == 0xA8 {
-            return Telegram::Disconnect;
-        }
-        return Telegram::Malformed;
+    // A length of its own, or 8 bytes.
+    let single = (n == 1) | (n == 8);
+    if single & (b / 64 == 2) & (b / 16 % 2 == 1) {
+        return Telegram::Ack {
+            ready: b / 32 % 2 == 1,
+            number: b % 16,
+        };
     }
-    if n != 6 {
+    if single & (b == 0xA3) {
+        return Telegram::Test;
+    }
+    if single & (b == 0xA4) {
+        return Telegram::Break;
+    }
+    if single & (b == 0xA8) {
+        return Telegram::Disconnect;
+    }
+    let six = (n == 6) | (n == 8);
+    if !six {
         return Telegram::Malformed;
     }
     let p = Parameters {
@@ -74,7 +103,7 @@ fn kind(s: &[u8]) -> Telegram
         t1: s[2],
         t3: s[4],
     };
-    if b == 0xA0 {
+    if (n == 6) & (b == 0xA0) {
         return Telegram::Setup(p);
     }
     if b == 0xA1 {

@@ -154,8 +154,13 @@ fn id(text: &mut [u8], at: usize, i: u16) -> usize {
 }
 
 fn sorted(text: &mut [u8], at: usize, t: Sorted) -> usize {
-    let kind = t.kind;
-    match kind {
+    let k = t.kind;
+    let at = kind(text, at, k);
+    flag(text, at, t.padded, b", padded")
+}
+
+fn kind(text: &mut [u8], at: usize, k: Telegram) -> usize {
+    match k {
         Telegram::Data {
             asks,
             last,

@@ -45,5 +45,5 @@ arrive-spec =
     (λ c. let e = c .before .enum-told4 .given .1 in (rw (e) (c .on-break .ensures), rw e))
     (λ c. let e = c .before .enum-told5 .given .1 in (rw (e) (c .answered .ensures), rw e))
     (λ c. let e = c .before .enum-told6 .given .1 in (rw (e) (c .answered2 .ensures), rw e))
-    (λ c. let e = c .before .before .kind .given .1 in (rw e (c .on-accept .ensures), rw e))
+    (λ c. let e = c .before .before .telegram .given .1 in (rw e (c .on-accept .ensures), rw e))
     (λ c. let e = c .before .enum-told7 .given .1 in (rw e (c .answered3 .ensures), rw e)))

@@ -10,10 +10,10 @@ on-accept-spec =
     tie.close
     (tie.spec
     (λ c κs. search needs)
-    (λ c. rw (c .brings .ensures) (search branches))
+    (λ c. rw (c .gives .ensures) (search branches))
     (λ c κs. search needs)
     (λ c κs. search needs)
-    (λ c. rw (c .brings2 .ensures) (search branches))
+    (λ c. rw (c .gives2 .ensures) (search branches))
     (λ c κs. search needs)
     (λ c κs. search needs)
-    (λ c. rw (c .brings3 .ensures, c .before .opened .ensures) (search branches)))
+    (λ c. rw (c .gives3 .ensures, c .before .opened .ensures) (search branches)))

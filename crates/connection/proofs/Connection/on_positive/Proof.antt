@@ -10,7 +10,7 @@ on-positive-spec =
     tie.close
     (tie.spec
     (λ c κs. search needs)
-    (λ c. rw (c .brings .ensures) (search branches))
+    (λ c. rw (c .gives .ensures) (search branches))
     (λ c κs. search needs)
     (λ c κs. search needs)
-    (λ c. rw (c .brings2 .ensures, c .before .agreeing .ensures) (search branches)))
+    (λ c. rw (c .gives2 .ensures, c .before .agreeing .ensures) (search branches)))

@@ -10,7 +10,7 @@ on-refusal-spec =
     tie.close
     (tie.spec
     (λ c κs. search needs)
-    (λ c. rw (c .brings .ensures) (search branches))
+    (λ c. rw (c .gives .ensures) (search branches))
     (λ c κs. search needs)
     (λ c κs. search needs)
     (λ c. rw (c .closed .ensures, c .before .tell .ensures) (search branches)))

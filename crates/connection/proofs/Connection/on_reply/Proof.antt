@@ -14,6 +14,6 @@ on-reply-spec =
     (λ c κs. search needs)
     (λ c. search needs)
     (λ c κs. search needs)
-    (λ c. rw (c .brings .ensures, c .before .enum-told .given .1))
+    (λ c. rw (c .gives .ensures, c .before .enum-told .given .1))
     (λ c. rw (c .on-refusal .ensures, c .before .before .reply .given .1))
     (λ c. rw (c .on-positive .ensures, c .before .before .reply2 .given .1)))

@@ -3,8 +3,7 @@ use mathlib.Core.Path.{_≡_}
 use mathlib.Core.List.{List}
 use lib.ListN.{drop}
 use Rattle.telegram.specs.Cutting.{longest}
-use Rattle.telegram.specs.Kinds.{sorted}
-use Rattle.telegram.specs.declared.kinds.Sorted.{Sorted}
+use Rattle.telegram.specs.declared.kinds.Telegram.{Telegram}
 use Rattle.channel.specs.declared.Answered.{Answered}
 use Rattle.arrival.specs.Arrived.{arrived, bufferedBy}
 use Rattle.open_end.specs.declared.OpenEnd.{OpenEnd}
@@ -13,21 +12,20 @@ use borrow.Author.Needs.{needs}
 use Rattle.open_end.proofs.OpenEnd.arrive.Statement.{statement}
 use Rattle.open_end.proofs.OpenEnd.arrive.Tie as tie
 
--- of a telegram that is sorted and the bytes behind its first
-module _ (e : OpenEnd) (s : List ℕ) (t : Sorted) (p : List ℕ) (kind : t ≡ sorted s) (behind : p ≡ drop 1 s) where
-  arrives : (room : ℕ) (r : Answered) → r ≡ arrived longest (e .channel) (t .kind) p room → record { answer = r .answer; end = withChannel e (r .channel) } ≡ arrivedAt longest e s room
+-- of a telegram and the bytes behind its first
+module _ (e : OpenEnd) (t : Telegram) (s : List ℕ) (p : List ℕ) (behind : p ≡ drop 1 s) where
+  arrives : (room : ℕ) (r : Answered) → r ≡ arrived longest (e .channel) t p room → record { answer = r .answer; end = withChannel e (r .channel) } ≡ arrivedAt longest e t s room
   unfolding arrivedAt
-  arrives room r is = rw (is, kind, behind)
+  arrives room r is = rw (is, behind)
 
-  buffers : (b b′ : List ℕ) → b′ ≡ bufferedBy longest (e .channel) (t .kind) p b → b′ ≡ bufferedAt longest e s b
+  buffers : (b b′ : List ℕ) → b′ ≡ bufferedBy longest (e .channel) t p b → b′ ≡ bufferedAt longest e t s b
   unfolding bufferedAt
-  buffers b b′ is = rw (is, kind, behind)
+  buffers b b′ is = rw (is, behind)
 
 pub arrive-spec : {M : Type 1} → statement M
 arrive-spec =
     tie.close
     (tie.spec
-    (λ c κs. search needs)
     (λ c κs. search needs)
     (λ c κs. search needs)
     (λ c. search needs)

@@ -35,6 +35,6 @@ judge-spec =
     tie.close
     (tie.spec
     (λ c. search needs)
-    (λ c. refused _ (c .before .before .args .self) (c .before .before .args .telegram .kind) (c .before .before .args .payload .now) (c .before .before .args .room) (c .match .keys2))
+    (λ c. refused _ (c .before .before .args .self) (c .before .before .args .telegram) (c .before .before .args .payload .now) (c .before .before .args .room) (c .match .keys2))
     (λ c κs. search needs)
-    (λ c. rw (c .before .before .kind .given .1) (c .on-data .ensures)))
+    (λ c. rw (c .before .before .telegram .given .1) (c .on-data .ensures)))

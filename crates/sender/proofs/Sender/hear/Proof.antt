@@ -36,6 +36,6 @@ hear-spec =
     tie.close
     (tie.spec
     (λ c. search needs)
-    (λ c. refused (c .before .args .terms) (c .before .args .self) (c .before .args .telegram .kind) (c .match .keys2))
+    (λ c. refused (c .before .args .terms) (c .before .args .self) (c .before .args .telegram) (c .match .keys2))
     (λ c κs. tt)
-    (λ c. rw (c .before .before .kind .given .1) (c .on-ack .ensures)))
+    (λ c. rw (c .before .before .telegram .given .1) (c .on-ack .ensures)))
