@@ -1,7 +1,7 @@
 #!/usr/bin/env python3
-"""One end of a TP 2.0 connection, on the side that opens it, as a plain executable model; over it the
-console's line protocol; and a car's unit as the other end. Run as a program, it answers standard input
-line by line as the console does.
+"""One end of a TP 2.0 connection as a plain executable model: the side that opens it, and the control unit's side; over
+each the line protocol of its console; and the ends that talk to them in the scenarios. Run as a program, it answers
+standard input line by line as the console does, with --unit as the unit's console does.
 
 A call answers a pair: the number, and what it carries (None, "done", an opcode, a frame, a message with its flags).
 The answer to an arriving frame has a third part: whether it carries the mark of a padded telegram.
@@ -13,6 +13,7 @@ from typing import NamedTuple
 
 LONGEST = 1024          # bytes in a message
 SETUP_ID = 0x200        # the opening request comes from here, its reply from here + unit
+REFUSALS = 0xD6, 0xD7, 0xD8
 
 
 def tenths(code):
@@ -246,109 +247,69 @@ class Receiver:
         return 0, Message(bytes(buffer[:length]), flags)
 
 
-class Connection:
-    """The record. Its phase is closed, setup (the D0 is awaited), parameters (the A1 is awaited) or open."""
+class End:
+    """What both sides have: the closed record, what is due outside an open connection, and the open connection. Which
+    phases lie between is a side's own."""
 
-    def __init__(self):
-        self.shut(None)
+    KEPT = ()               # what every phase keeps, closed too
 
-    def shut(self, bye):
-        """A closed record keeps nothing but the A8 that is due, if the transmit ID is given."""
+    def enter(self, phase, **fields):
+        """Another phase, with nothing from before but what is named."""
+        kept = {name: self.__dict__[name] for name in self.KEPT}
         self.__dict__.clear()
-        self.phase = "closed"
-        self.bye = bye
+        self.__dict__.update(kept, phase=phase, **fields)
 
-    # The calls
+    def shut(self, left=None):
+        """Closed; of what is due, this frame alone is left."""
+        self.enter("closed", left=left)
 
-    def open(self, settings):
-        if self.phase != "closed":
-            return 4, None
-        if not settings.good():
-            return 10, None
-        self.__dict__.clear()
-        self.settings = settings
-        self.begin("setup")
-        return 0, None
+    def part(self):
+        """Closed with an A8 due, by a close or by the peer's A8."""
+        self.shut((self.tx, bytes([0xA8])))
 
-    def begin(self, phase):
-        """A phase of the opening, with its request due."""
-        self.phase = phase
-        self.asking = True      # the request is due
-        self.asked = False      # it was handed over at least once
-        self.repeats = 0
-        self.timer = 0
+    def begin_open(self, block, t3):
+        """Open, as the A1 leaves it: numbers at 0, the smaller block size, the peer's T3, and nothing from before."""
+        s = self.settings
+        self.enter("open", settings=s, tx=self.tx,
+                   sender=Sender(min(s.block, block), tenths(t3)),
+                   receiver=Receiver(),
+                   answering=False,         # our A1 is due
+                   test_out=False,
+                   test_again=False,        # a repeated test is due
+                   test_wait=0,
+                   unanswered=0,
+                   quiet=s.interval)        # what is left of the test interval
 
-    def listens_on(self):
-        return SETUP_ID + self.settings.unit if self.phase == "setup" else self.settings.rx
+    def parameters(self, opcode):
+        """An A0 or A1 of our settings."""
+        s = self.settings
+        return bytes([opcode, s.block, s.t1, 0xFF, s.t3, 0xFF])
 
-    def arrive(self, ident, data, buffer):
-        """Every answer but 1, 3 and a closed record's 4 carries the mark on; until the D0 nothing is sorted."""
-        if self.phase == "closed":
-            return 4, None, False
-        if ident != self.listens_on():
-            return 3, None, False
-        if self.phase == "setup":
-            return (*self.arrive_setup(data), False)
+    def arrive_own(self, data, buffer):
+        """A frame on the own receive ID. Every answer but 1 carries the mark on; padding alters nothing else, since no
+        rule looks behind a kind's own bytes."""
         kind, padded = sort(data)
         if kind is None:
             return 1, None, False
+        if kind == "disconnect":
+            self.part()
+            return 0, None, padded
         return (*self.arrive_sorted(kind, data, buffer), padded)
 
-    def arrive_sorted(self, kind, data, buffer):
-        """Padding alters nothing here: no rule looks behind a kind's own bytes."""
-        if kind == "disconnect":
-            self.shut(self.tx)
-            return 0, None
-        if self.phase == "parameters":
-            return self.arrive_parameters(kind, data)
-        answer = self.arrive_open(kind, data, buffer)
+    def arrive_open(self, kind, data, buffer):
+        """What both sides do with a telegram on an open connection: all kinds but A8 and A0."""
+        answer = self.arrive_kind(kind, data, buffer)
         if answer[0] == 8:
-            self.shut(None)
+            self.shut()
         elif answer[0] == 0:
             self.quiet = self.settings.interval
         return answer
 
-    def arrive_setup(self, data):
-        own = self.settings.rx.to_bytes(2, "little")
-        if len(data) != 7 or data[0] != 0x00:
-            return 1, None
-        positive = data[1] == 0xD0 and data[2:4] == own and data[5] <= 0x07 and data[6] == 0x01
-        if not positive and data[1] not in (0xD6, 0xD7, 0xD8):
-            return 1, None
-        if not self.asked:
-            return 4, None
-        if not positive:
-            self.shut(None)
-            return 11, data[1]
-        self.tx = int.from_bytes(data[4:6], "little")
-        self.begin("parameters")
-        return 0, None
-
-    def arrive_parameters(self, kind, data):
-        if kind != "A1" or not self.asked:
-            return 4, None
-        if not 1 <= data[1] <= 15:
-            return 2, None
-        settings, tx = self.settings, self.tx
-        self.__dict__.clear()
-        self.phase, self.settings, self.tx = "open", settings, tx
-        self.sender = Sender(min(settings.block, data[1]), tenths(data[4]))
-        self.receiver = Receiver()
-        self.answering = False          # our A1 is due
-        self.test_out = False
-        self.test_again = False         # a repeated test is due
-        self.test_wait = 0
-        self.unanswered = 0
-        self.quiet = settings.interval  # what is left of the test interval
-        return 0, None
-
-    def arrive_open(self, kind, data, buffer):
-        if kind == "A0":
-            return 4, None
+    def arrive_kind(self, kind, data, buffer):
         if kind == "A1":
             if not self.test_out:
                 return 4, None
-            if not 1 <= data[1] <= 15:
+            if bad_block(data[1]):
                 return 2, None
             self.test_out = self.test_again = False
             self.test_wait = self.unanswered = 0
@@ -363,26 +324,17 @@ class Connection:
             return self.sender.ack(bool(data[0] & 0x20), data[0] & 0x0F, self.settings)
         return self.receiver.data(data, buffer), None
 
-    def elapse(self, time):
-        lost = False
-        if self.phase in ("setup", "parameters"):
-            ends = 0 < self.timer <= time
-            self.timer = max(0, self.timer - time)
-            if ends:
-                lost = self.repeats == self.settings.mntc
-                self.repeats += 1
-                self.asking = True
-        elif self.phase == "open":
-            lost = self.sender.elapse(time, self.settings)
-            ends = 0 < self.test_wait <= time
-            self.test_wait = max(0, self.test_wait - time)
-            self.quiet = max(0, self.quiet - time)
-            if ends:
-                lost = lost or self.unanswered == self.settings.tests
-                self.unanswered += 1
-                self.test_again = True
+    def elapse_open(self, time):
+        lost = self.sender.elapse(time, self.settings)
+        ends = 0 < self.test_wait <= time
+        self.test_wait = max(0, self.test_wait - time)
+        self.quiet = max(0, self.quiet - time)
+        if ends:
+            lost = lost or self.unanswered == self.settings.tests
+            self.unanswered += 1
+            self.test_again = True
         if lost:
-            self.shut(None)
+            self.shut()
             return 8, None
         return 0, None
 
@@ -393,27 +345,13 @@ class Connection:
             return self.test_again
         return self.settings.interval != 0 and self.quiet == 0
 
-    def due(self, message):
-        """At most one frame: its ID and bytes."""
-        if self.phase == "closed":
-            if self.bye is None:
-                return 0, None
-            frame = self.bye, bytes([0xA8])
-            self.shut(None)
-            return 0, frame
-        s = self.settings
-        if self.phase in ("setup", "parameters"):
-            if not self.asking:
-                return 0, None
-            self.asking, self.asked, self.timer = False, True, s.te
-            if self.phase == "setup":
-                return 0, (SETUP_ID, bytes([s.unit, 0xC0, 0x00, 0x10, s.rx & 0xFF, s.rx >> 8, 0x01]))
-            return 0, (self.tx, bytes([0xA0, s.block, s.t1, 0xFF, s.t3, 0xFF]))
+    def due_open(self, message):
+        t1 = tenths(self.settings.t1)
         if self.answering:
             self.answering = False
-            data = bytes([0xA1, s.block, s.t1, 0xFF, s.t3, 0xFF])
+            data = self.parameters(0xA1)
         elif self.test_due():
-            self.test_out, self.test_again, self.test_wait = True, False, tenths(s.t1)
+            self.test_out, self.test_again, self.test_wait = True, False, t1
             data = bytes([0xA3])
         elif self.receiver.ack is not None:
             data = bytes([self.receiver.ack])
@@ -421,11 +359,15 @@ class Connection:
         elif self.sender.due():
             if len(message) != self.sender.length:
                 return 7, None
-            data = self.sender.hand_over(message, tenths(s.t1))
+            data = self.sender.hand_over(message, t1)
         else:
             return 0, None
-        self.quiet = s.interval
+        self.quiet = self.settings.interval
         return 0, (self.tx, data)
+
+    def in_sending(self):
+        """An accepted message is not done."""
+        return self.phase == "open" and self.sender.length is not None
 
     def send(self, message):
         if self.phase != "open":
@@ -437,14 +379,213 @@ class Connection:
             return 4, None
         return self.receiver.take(buffer)
 
+
+def bad_block(size):
+    """Row 2."""
+    return not 1 <= size <= 15
+
+
+class Connection(End):
+    """The record of the side that opens. Its phase is closed, setup (the D0 is awaited), parameters (the A1 is awaited)
+    or open."""
+
+    def __init__(self):
+        self.shut()
+
+    # The calls
+
+    def open(self, settings):
+        if self.phase != "closed":
+            return 4, None
+        if not settings.good():
+            return 10, None
+        self.begin("setup", settings=settings)
+        return 0, None
+
+    def begin(self, phase, **fields):
+        """A phase of the opening, with its request due."""
+        self.enter(phase, **fields,
+                   asking=True,         # the request is due
+                   asked=False,         # it was handed over at least once
+                   repeats=0,
+                   timer=0)
+
+    def listens_on(self):
+        return SETUP_ID + self.settings.unit if self.phase == "setup" else self.settings.rx
+
+    def arrive(self, ident, data, buffer):
+        """Until the D0 nothing is sorted, so nothing is marked."""
+        if self.phase == "closed":
+            return 4, None, False
+        if ident != self.listens_on():
+            return 3, None, False
+        if self.phase == "setup":
+            return (*self.arrive_setup(data), False)
+        return self.arrive_own(data, buffer)
+
+    def arrive_setup(self, data):
+        own = self.settings.rx.to_bytes(2, "little")
+        if len(data) != 7 or data[0] != 0x00:
+            return 1, None
+        positive = data[1] == 0xD0 and data[2:4] == own and data[5] <= 0x07 and data[6] == 0x01
+        if not positive and data[1] not in REFUSALS:
+            return 1, None
+        if not self.asked:
+            return 4, None
+        if not positive:
+            self.shut()
+            return 11, data[1]
+        self.begin("parameters", settings=self.settings, tx=int.from_bytes(data[4:6], "little"))
+        return 0, None
+
+    def arrive_sorted(self, kind, data, buffer):
+        if self.phase == "parameters":
+            return self.arrive_parameters(kind, data)
+        if kind == "A0":
+            return 4, None
+        return self.arrive_open(kind, data, buffer)
+
+    def arrive_parameters(self, kind, data):
+        if kind != "A1" or not self.asked:
+            return 4, None
+        if bad_block(data[1]):
+            return 2, None
+        self.begin_open(data[1], data[4])
+        return 0, None
+
+    def elapse(self, time):
+        if self.phase == "closed":
+            return 0, None
+        if self.phase == "open":
+            return self.elapse_open(time)
+        ends = 0 < self.timer <= time
+        self.timer = max(0, self.timer - time)
+        if ends and self.repeats == self.settings.mntc:
+            self.shut()
+            return 8, None
+        if ends:
+            self.repeats += 1
+            self.asking = True
+        return 0, None
+
+    def due(self, message):
+        """At most one frame: its ID and bytes."""
+        if self.phase == "closed":
+            frame = self.left
+            self.shut()
+            return 0, frame
+        if self.phase == "open":
+            return self.due_open(message)
+        if not self.asking:
+            return 0, None
+        self.asking, self.asked, self.timer = False, True, self.settings.te
+        return 0, self.request() if self.phase == "setup" else (self.tx, self.parameters(0xA0))
+
+    def request(self):
+        """The C0."""
+        s = self.settings
+        return SETUP_ID, bytes([s.unit, 0xC0, 0x00, 0x10, s.rx & 0xFF, s.rx >> 8, 0x01])
+
     def close(self):
         if self.phase == "closed":
             return 4, None
-        self.shut(self.tx if self.phase != "setup" else None)
+        if self.phase == "setup":
+            self.shut()
+        else:
+            self.part()
         return 0, None
 
 
-# The console
+class Unit(End):
+    """The record of the control unit's side. Its phase is closed, D0 due, D0 out, A1 due or open; before it is open,
+    `left` is the one frame that is due, and nothing is timed."""
+
+    KEPT = "settings", "reply"
+    DEFAULT = Settings(rx=0x740), 0xD0
+
+    def __init__(self):
+        self.settings, self.reply = self.DEFAULT
+        self.shut()
+
+    # The calls
+
+    def set(self, settings, reply):
+        if self.phase != "closed":
+            return 4, None
+        if not settings.good() or settings.rx == SETUP_ID or reply not in (0xD0, *REFUSALS):
+            return 10, None
+        self.settings, self.reply = settings, reply
+        self.shut()
+        return 0, None
+
+    def listens_on(self):
+        """Beside 0x200."""
+        return self.settings.rx
+
+    def arrive(self, ident, data, buffer):
+        """0x200 comes first, in every state, and is never marked."""
+        if ident == SETUP_ID:
+            return (*self.arrive_setup(data), False)
+        if self.phase == "closed":
+            return 4, None, False
+        if ident != self.listens_on():
+            return 3, None, False
+        return self.arrive_own(data, buffer)
+
+    def arrive_setup(self, data):
+        """A C0 ends what was there; its reply goes to the newest asker."""
+        if len(data) != 7 or data[1:4] != b"\xC0\x00\x10" or data[5] > 0x07 or data[6] != 0x01:
+            return 1, None
+        unit, own = self.settings.unit, self.settings.rx
+        if data[0] != unit:
+            return 3, None
+        answer = 8 if self.in_sending() else 0
+        reply = SETUP_ID + unit, bytes([0x00, self.reply, *data[4:6], own & 0xFF, own >> 8, 0x01])
+        if self.reply in REFUSALS:
+            self.shut(reply)
+        else:
+            self.enter("D0 due", tx=int.from_bytes(data[4:6], "little"), left=reply)
+        return answer, None
+
+    def arrive_sorted(self, kind, data, buffer):
+        if kind == "A0" and self.phase != "D0 due":
+            return self.arrive_a0(data)
+        if self.phase != "open":
+            return 4, None
+        return self.arrive_open(kind, data, buffer)
+
+    def arrive_a0(self, data):
+        """Whatever there was ends; the fields of the newest A0 hold from the A1's hand-over."""
+        if bad_block(data[1]):
+            return 2, None
+        answer = 8 if self.in_sending() else 0
+        self.enter("A1 due", tx=self.tx, left=(self.tx, self.parameters(0xA1)), block=data[1], t3=data[4])
+        return answer, None
+
+    def elapse(self, time):
+        return self.elapse_open(time) if self.phase == "open" else (0, None)
+
+    def due(self, message):
+        """At most one frame: its ID and bytes."""
+        if self.phase == "open":
+            return self.due_open(message)
+        frame = self.left
+        if self.phase == "closed":
+            self.shut()
+        elif self.phase == "A1 due":
+            self.begin_open(self.block, self.t3)
+        else:
+            self.enter("D0 out", tx=self.tx, left=None)
+        return 0, frame
+
+    def close(self):
+        if self.phase == "closed":
+            return 4, None
+        self.part()
+        return 0, None
+
+
+# The consoles
 
 LINE = 16000            # characters in a line, without its end
 BUFFER = 4096
@@ -510,12 +651,16 @@ def without_return(line):
 
 
 class Console:
+    """The lines over the side that opens."""
+
+    END = Connection
+
     def __init__(self, lines=0):
         self.lines = lines      # read so far
         self.new()
 
     def new(self):
-        self.connection = Connection()
+        self.connection = self.END()
         self.storage = bytearray(BUFFER)
         self.accepted = b""
         self.lend(1024)
@@ -562,10 +707,6 @@ class Console:
         elif name == b"close":
             no_more(words)
             result = connection.close()
-        elif name == b"open":
-            if words and len(words) != len(RANGES):
-                raise Malformed
-            result = connection.open(Settings(*map(decimal, words)))
         elif name == b"room":
             self.lend(at_most(BUFFER, decimal(one(words))))
             result = 0, None
@@ -577,8 +718,28 @@ class Console:
             self.new()
             result = 0, None
         else:
-            raise Malformed
+            result = self.own_call(name, words)
         return spoken(*result)
+
+    def own_call(self, name, words):
+        """The call that only this side has."""
+        if name != b"open" or len(words) not in (0, len(RANGES)):
+            raise Malformed
+        return self.connection.open(Settings(*map(decimal, words)))
+
+
+class UnitConsole(Console):
+    """The lines over the control unit's side."""
+
+    END = Unit
+
+    def own_call(self, name, words):
+        if name != b"set" or len(words) not in (0, len(RANGES) + 1):
+            raise Malformed
+        if not words:
+            return self.connection.set(*Unit.DEFAULT)
+        *settings, reply = map(decimal, words)
+        return self.connection.set(Settings(*settings), reply)
 
 
 def spoken(number, value, padded=False):
@@ -596,16 +757,13 @@ def spoken(number, value, padded=False):
     return "%d%s %s" % (number, flags, pairs(value.data))
 
 
-# The other end
+# The other ends
 
-class Car:
-    """A unit in the car, for realistic traffic: it answers the opening, acknowledges, sends messages of its own,
-    is not ready now and then, tests, breaks off and disconnects. `habits` gives each its chance (0 if not named):
-    refuse, refuse_data, hold, test, break, bye, speak, flag, pad."""
+class Other:
+    """The other end, for realistic traffic. `habits` gives each habit its chance (0 if not named)."""
 
-    def __init__(self, rng, tx, block, t3, habits):
-        self.rng, self.tx, self.block, self.t3, self.habits = rng, tx, block, t3, habits
-        self.rx = None          # the ID it sends on; None while no channel is open
+    def __init__(self, rng, habits):
+        self.rng, self.habits = rng, habits
         self.sent = []          # its messages that were acknowledged whole
         self.heard = []         # the messages that it received
 
@@ -615,6 +773,20 @@ class Car:
     def control(self, *data):
         """A control telegram as it goes out, padded with any content or not."""
         return bytes(data) + self.rng.randbytes(8 - len(data) if self.chance("pad") else 0)
+
+
+class Car(Other):
+    """A unit in the car that keeps the rules loosely: it answers the opening, acknowledges, sends messages of its own, is not
+    ready now and then, tests, breaks off and disconnects. Its habits: refuse, refuse_data, hold, test, break, bye, speak,
+    flag, pad."""
+
+    def __init__(self, rng, tx, block, t3, habits):
+        super().__init__(rng, habits)
+        self.tx, self.block, self.t3 = tx, block, t3
+        self.rx = None          # the ID it sends on; None while no channel is open
+
+    def talks(self):
+        return self.rx is not None
 
     def start(self):
         self.agreed = self.block
@@ -708,9 +880,65 @@ class Car:
             self.next = self.oldest
 
 
-def answers(data):
-    """The answers to a whole input."""
-    console = Console()
+class Tester(Other):
+    """A tester: the side that opens, with someone who sends, takes and closes. Its habits: speak, flag, pad, late (with
+    taking), break, bye, and again: a second C0 or A0 out of turn."""
+
+    def __init__(self, rng, settings, habits, patient):
+        super().__init__(rng, habits)
+        self.settings, self.patient = settings, patient     # a patient one repeats no request of its opening
+        self.end, self.buffer = Connection(), bytearray(LONGEST)
+        self.message, self.flags = b"", 0
+
+    def talks(self):
+        return self.end.phase == "open"
+
+    def open(self, unit):
+        self.end.open(self.settings._replace(unit=unit))
+
+    def hear(self, ident, data):
+        if self.end.arrive(ident, data, self.buffer)[1] == "done":
+            self.sent.append(Message(self.message, self.flags))
+        return []
+
+    def work(self, lengths):
+        """What it sends: at most one frame; None if it has nothing to say."""
+        end = self.end
+        if end.phase == "open":
+            if end.receiver.complete and not self.chance("late"):
+                self.heard.append(end.take(self.buffer)[1].data)
+            if end.sender.length is None and self.chance("speak"):
+                self.message = self.rng.randbytes(self.rng.choice(lengths))
+                self.flags = self.rng.randrange(1, 16) if self.chance("flag") else 0
+                end.send(self.message)
+            if self.chance("break"):
+                return end.tx, self.control(0xA4)
+            if self.chance("again"):
+                return self.rng.choice(((end.tx, end.parameters(0xA0)), end.request()))
+            if self.chance("bye"):
+                end.close()
+        frame = end.due(self.message)[1]
+        if frame is None or frame[0] == SETUP_ID:
+            return frame
+        return frame[0], self.dressed(frame[1])
+
+    def dressed(self, data):
+        """As it goes out: the message's flags are put into its first frame."""
+        kind, _ = sort(data)
+        if kind in FILLABLE:
+            return self.control(*data)
+        if kind == "data" and self.end.sender.next == 1:
+            return bytes([data[0], data[1] | self.flags << 4, *data[2:]])
+        return data
+
+    def tire(self):
+        """Time passes."""
+        if self.talks() or not self.patient:
+            self.end.elapse(self.rng.choice((1, 50, 50, 100, 1000)))
+
+
+def answers(data, console):
+    """A console's answers to a whole input."""
     *lines, last = data.split(b"\n")
     said = [console.answer(line) for line in lines]
     if last:
@@ -719,7 +947,7 @@ def answers(data):
 
 
 def main():
-    console = Console()
+    console = UnitConsole() if "--unit" in sys.argv[1:] else Console()
     for line in sys.stdin.buffer:
         ended = line.endswith(b"\n")
         answer = console.answer(line[:-1] if ended else line, ended)

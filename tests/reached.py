@@ -43,65 +43,78 @@ def place_of(console, line, past):
     """The places at a limit or in a rule that this line is at, before it is answered."""
     words = [word for word in line.split(b" ") if word]
     c = console.connection
-    if c.phase == "closed" and c.bye is not None:
+    if c.phase == "closed" and c.left is not None:
         yield "A8 due, %s" % words[0].decode("latin-1")
     try:
-        if words[0] == b"open" and len(words) == 12 and c.phase == "closed":
-            given = Settings(*map(model.decimal, words[1:]))
-            for name, value, (low, high) in zip(given._fields, given, model.RANGES):
-                if value in (low - 1, low, high, high + 1):
-                    yield "open %s %d" % (name, value)
-            if given.t1 in (0x40, 0x41, 0x80, 0xC0, 0xC1):
-                yield "open t1 %d" % given.t1
-            for name, value, most in zip(given._fields, given, WIDEST):
-                if value > most:
-                    yield "open %s too wide" % name
-            if max(given) >= 2**64:
-                yield "open 64 bits and more"
-        elif words[0] == b"open" and len(words) == 12:
-            if max(map(model.decimal, words[1:])) >= 2**64:
-                yield "open 64 bits and more, %s" % c.phase
+        if words[0] == b"open" and len(words) == 12:
+            yield from place_of_settings(c, "open", Settings(*map(model.decimal, words[1:])))
         elif words[0] == b"frame":
             yield from place_of_frame(console, model.identifier(words[1]), model.octets(words[2:]))
-        elif words[0] == b"time":
-            span = model.at_most(model.TIME, model.decimal(words[1]))
-            for name, left in timers(c).items():
-                if near(span, left):
-                    yield "time %s %s" % (name, near(span, left))
-                if span >= left:
-                    yield from place_of_end(c, name)
-            if span == model.TIME:
-                yield "time longest, %s" % c.phase
-        elif words[0] == b"send" and c.phase == "open" and c.sender.length is None:
-            length = len(model.octets(words[1:]))
-            if length in (0, 1, model.LONGEST, model.LONGEST + 1):
-                yield "send %d" % length
-            if c.sender.hold:
-                yield "send in a hold"
-        elif words[0] == b"take" and c.phase == "open" and c.receiver.complete:
-            length, flags = c.receiver.complete
-            if length in (1, model.LONGEST):
-                yield "take %d" % length
-            if near(len(console.buffer), length):
-                yield "take room %s" % near(len(console.buffer), length)
-            yield "take, flags %X" % flags
-            if flags:
-                yield "take, flagged message waits"
-            for event in past:
-                yield "take %s flags after %s" % ("with" if flags else "without", event)
-        elif words[0] == b"take" and c.phase == "open" and flags_of(c.receiver.course):
-            yield "take, flagged message begun"
-        elif words[0] == b"close":
-            yield "close %s" % c.phase
-        elif words[0] == b"due" and c.phase == "open":
-            if c.test_due() and c.receiver.ack and c.answering and c.sender.due():
-                yield "due all kinds"
-            if c.test_again and c.sender.unacknowledged():
-                yield "due test kept back"
-            if c.sender.length and c.test_due():
-                yield "due test in a message"
+        else:
+            yield from place_of_call(console, words, past)
     except (model.Malformed, IndexError, ValueError):
         return
+
+
+def place_of_settings(c, name, given, *more):
+    wide = max(*given, *more) >= 2**64
+    if c.phase != "closed":
+        if wide:
+            yield "%s 64 bits and more, %s" % (name, c.phase)
+        return
+    for field, value, (low, high), most in zip(given._fields, given, model.RANGES, WIDEST):
+        if value in (low - 1, low, high, high + 1):
+            yield "%s %s %d" % (name, field, value)
+        if value > most:
+            yield "%s %s too wide" % (name, field)
+    if given.t1 in (0x40, 0x41, 0x80, 0xC0, 0xC1):
+        yield "%s t1 %d" % (name, given.t1)
+    if wide:
+        yield "%s 64 bits and more" % name
+
+
+def place_of_call(console, words, past):
+    """The calls that both sides have, but for frames."""
+    c = console.connection
+    if words[0] == b"time":
+        span = model.at_most(model.TIME, model.decimal(words[1]))
+        for name, left in timers(c).items():
+            if near(span, left):
+                yield "time %s %s" % (name, near(span, left))
+            if span >= left:
+                yield from place_of_end(c, name)
+        if span == model.TIME:
+            yield "time longest, %s" % c.phase
+    elif words[0] == b"close":
+        yield "close %s" % c.phase
+    elif c.phase != "open":
+        return
+    elif words[0] == b"send" and c.sender.length is None:
+        length = len(model.octets(words[1:]))
+        if length in (0, 1, model.LONGEST, model.LONGEST + 1):
+            yield "send %d" % length
+        if c.sender.hold:
+            yield "send in a hold"
+    elif words[0] == b"take" and c.receiver.complete:
+        length, flags = c.receiver.complete
+        if length in (1, model.LONGEST):
+            yield "take %d" % length
+        if near(len(console.buffer), length):
+            yield "take room %s" % near(len(console.buffer), length)
+        yield "take, flags %X" % flags
+        if flags:
+            yield "take, flagged message waits"
+        for event in past:
+            yield "take %s flags after %s" % ("with" if flags else "without", event)
+    elif words[0] == b"take" and flags_of(c.receiver.course):
+        yield "take, flagged message begun"
+    elif words[0] == b"due":
+        if c.test_due() and c.receiver.ack and c.answering and c.sender.due():
+            yield "due all kinds"
+        if c.test_again and c.sender.unacknowledged():
+            yield "due test kept back"
+        if c.sender.length and c.test_due():
+            yield "due test in a message"
 
 
 def place_of_end(c, name):
@@ -127,7 +140,7 @@ def filled(console, line):
     the bytes and not by the model's sorting, so that each is held to the other."""
     words = [word for word in line.split(b" ") if word]
     c = console.connection
-    if words[:1] != [b"frame"] or c.phase not in ("parameters", "open"):
+    if words[:1] != [b"frame"] or c.phase in ("closed", "setup"):
         return None
     try:
         ident, data = model.identifier(words[1]), model.octets(words[2:])
@@ -149,26 +162,41 @@ def place_of_frame(console, ident, data):
         yield "frame closed"
     if where in ("closed", "another ID"):
         return
-    yield "bytes %s %d" % (c.phase, len(data))
     if c.phase == "setup":
+        yield "bytes setup %d" % len(data)
         if len(data) == 7 and data[1] in (0xD0, 0xD6, 0xD7, 0xD8):
             yield "reply %02X, asked %s, due %s" % (data[1], c.asked, c.asking)
         if len(data) == 8 and data[0] == 0x00 and c.asked:
             yield "reply %02X of 8" % data[1]
         return
-    kind, padded = sort(data)
+    yield from place_of_sorted(console, data)
+    if c.phase == "parameters" and sort(data)[0] == "A1":
+        yield from place_of_a1(c, data, c.asked, "asked %s, due %s" % (c.asked, c.asking))
+
+
+def place_of_sorted(console, data):
+    """A frame where telegrams are sorted; on an open connection, what it finds there."""
+    c = console.connection
+    kind, _ = sort(data)
+    yield "bytes %s %d" % (c.phase, len(data))
     yield "kind %s %s" % (c.phase, kind)
-    if kind == "A1" and padded and (c.asked if c.phase == "parameters" else c.test_out):
+    if c.phase == "open":
+        yield from place_of_open(console, kind, data)
+
+
+def place_of_a1(c, data, judged, state):
+    if judged and len(data) == 8:
         yield "padded A1, %s, block size %s, behind it %s" % (
             c.phase, *("good" if 1 <= size <= 15 else "bad" for size in (data[1], data[6])))
-    if kind == "A1" and data[1] in (0, 1, 15, 16):
-        if c.phase == "parameters":
-            yield "A1 block %d, asked %s, due %s" % (data[1], c.asked, c.asking)
-        else:
-            yield "A1 block %d, test out %s, again %s" % (data[1], c.test_out, c.test_again)
-    if c.phase != "open":
-        return
-    if kind == "ack":
+    if data[1] in (0, 1, 15, 16):
+        yield "A1 block %d, %s" % (data[1], state)
+
+
+def place_of_open(console, kind, data):
+    c = console.connection
+    if kind == "A1":
+        yield from place_of_a1(c, data, c.test_out, "test out %s, again %s" % (c.test_out, c.test_again))
+    elif kind == "ack":
         s = c.sender
         ready = "ready" if data[0] & 0x20 else "not ready"
         if s.length is None or s.hold:
@@ -254,10 +282,8 @@ def timers(c):
     if c.phase == "open":
         left = {"T3": c.sender.gap, "wait": c.sender.wait, "hold": c.sender.hold,
                 "test": c.test_wait, "interval": c.quiet}
-    elif c.phase == "closed":
-        left = {}
     else:
-        left = {"T_E": c.timer}
+        left = {"T_E": c.timer} if c.phase in ("setup", "parameters") else {}
     return {name: value for name, value in left.items() if value}
 
 
@@ -270,47 +296,32 @@ def picture(console):
     return (tuple(c.items()), sender, tuple(receiver.items()), bytes(console.storage), len(console.buffer)), asked
 
 
-# What a whole run must have reached: both sides of each limit, each row, each end of a timer.
-REACHED = """
-open rx 0: 0|open rx 2047: 0|open rx 2048: 10|open unit 0: 0|open unit 239: 0|open unit 240: 10|open block 0: 10
-open block 1: 0|open block 15: 0|open block 16: 10|open t1 0: 10|open t1 64: 10|open t1 65: 0|open t1 128: 10
-open t1 192: 10|open t1 193: 0|open t1 255: 0|open t3 0: 0|open t3 255: 0|open te 0: 10|open te 1: 0|open te 10000: 0
-open te 10001: 10|open mntc 0: 0|open mntc 255: 0|open repeats 0: 0|open repeats 255: 0|open twait 0: 10
-open twait 1: 0|open twait 65535: 0|open interval 0: 0|open interval 65535: 0|open tests 0: 0|open tests 255: 0
-A1 block 0, asked True, due False: 2|A1 block 1, asked True, due False: 0|A1 block 15, asked True, due False: 0
-A1 block 16, asked True, due False: 2|A1 block 15, asked False, due True: 4|A1 block 16, asked False, due True: 4
-A1 block 15, asked True, due True: 0|A1 block 0, test out True, again False: 2
-A1 block 1, test out True, again False: 0|A1 block 15, test out True, again False: 0
-A1 block 16, test out True, again False: 2|A1 block 15, test out True, again True: 0
-A1 block 15, test out False, again False: 4|A1 block 16, test out False, again False: 4|send 0: 6|send 1: 0
-send 1024: 0|send 1025: 6|send in a hold: 0|first frame, room one less, flags 0: 9
-later frame, room equal: 0|later frame, room one less: 7|later frame, room one more: 0|take 1: 0|take 1024: 0
-take room equal: 0|take room one less: 7|take room one more: 0|ack ready, distance 15 of 15: 0
-ack ready, distance 15 of 15: 0 done|ack ready, distance 15 of 14: 12|ack not ready, distance 15 of 15: 0
-ack not ready, distance 15 of 14: 12|ack ready, distance 0, wait True: 12|ack ready, distance in range, wait True: 0
-ack ready, distance in range, wait True: 0 done|ack ready, distance beyond, wait True: 12
-ack ready, distance 0, wait False: 12|ack ready, distance in range, wait False: 0
-ack ready, distance in range, wait False: 0 done|ack not ready, distance 0, wait True: 0
-ack not ready, distance 0, wait True: 8|ack not ready, distance in range, wait True: 0
-ack not ready, distance in range, wait True: 0 done|ack not ready, distance beyond, wait True: 12
-ack not ready, count full: 8|ack not ready, count one short: 0|ack not ready, count below: 0
-ack not ready, nothing unacknowledged: 0|ack in a repeat: 0|ack ready, message True, hold True: 12
-ack not ready, message True, hold True: 12|ack ready, message False, hold False: 12
-ack not ready, message False, hold False: 12|ack ready, message False, hold True: 12|time T_E one less: 0
-time T_E equal: 0|time T_E equal: 8|time T_E one more: 0|time wait one less: 0|time wait equal: 0|time wait equal: 8
+# What a whole run must have reached: both sides of each limit, each row, each end of a timer. First, at either side, on an
+# open connection and of the lines themselves.
+OPEN = """
+A1 block 0, test out True, again False: 2|A1 block 1, test out True, again False: 0
+A1 block 15, test out True, again False: 0|A1 block 16, test out True, again False: 2
+A1 block 15, test out True, again True: 0|A1 block 15, test out False, again False: 4
+A1 block 16, test out False, again False: 4|send 0: 6|send 1: 0|send 1024: 0|send 1025: 6|send in a hold: 0
+first frame, room one less, flags 0: 9|later frame, room equal: 0|later frame, room one less: 7
+later frame, room one more: 0|take 1: 0|take 1024: 0|take room equal: 0|take room one less: 7|take room one more: 0
+ack ready, distance 15 of 15: 0|ack ready, distance 15 of 15: 0 done|ack ready, distance 15 of 14: 12
+ack not ready, distance 15 of 15: 0|ack not ready, distance 15 of 14: 12|ack ready, distance 0, wait True: 12
+ack ready, distance in range, wait True: 0|ack ready, distance in range, wait True: 0 done
+ack ready, distance beyond, wait True: 12|ack ready, distance 0, wait False: 12
+ack ready, distance in range, wait False: 0|ack ready, distance in range, wait False: 0 done
+ack not ready, distance 0, wait True: 0|ack not ready, distance 0, wait True: 8
+ack not ready, distance in range, wait True: 0|ack not ready, distance in range, wait True: 0 done
+ack not ready, distance beyond, wait True: 12|ack not ready, count full: 8|ack not ready, count one short: 0
+ack not ready, count below: 0|ack not ready, nothing unacknowledged: 0|ack in a repeat: 0
+ack ready, message True, hold True: 12|ack not ready, message True, hold True: 12
+ack ready, message False, hold False: 12|ack not ready, message False, hold False: 12
+ack ready, message False, hold True: 12|time wait one less: 0|time wait equal: 0|time wait equal: 8
 time hold one less: 0|time hold equal: 0|time T3 one less: 0|time T3 equal: 0|time test one less: 0|time test equal: 0
 time test equal: 8|time interval one less: 0|time interval equal: 0|time longest, open: 0|time longest, open: 8
-time longest, setup: 0|time longest, parameters: 0|T_E ends, count 0 of 0: 8|T_E ends, count full: 8
-T_E ends, count one short: 0|wait ends, count 0 of 0: 8|wait ends, count full: 8|wait ends, count one short: 0
-test ends, count 0 of 0: 8|test ends, count full: 8|test ends, count one short: 0|reply D0, asked True, due False: 0
-reply D0, asked True, due True: 0|reply D0, asked False, due True: 4|reply D0, asked True, due False: 1
-reply D0, asked False, due True: 1|reply D6, asked True, due False: 11|reply D7, asked True, due False: 11
-reply D8, asked True, due False: 11|reply D6, asked False, due True: 4|reply D6, asked True, due False: 1
-kind parameters data: 4|kind parameters ack: 4|kind parameters A0: 4|kind parameters test: 4|kind parameters break: 4
-kind parameters disconnect: 0|kind parameters None: 1|kind open A0: 4|kind open None: 1|kind open disconnect: 0
-kind open test: 0|close closed: 4|close setup: 0|close parameters: 0|close open: 0|frame closed: 4|A8 due, time: 0
-A8 due, frame: 4|A8 due, close: 4|A8 due, send: 4|A8 due, take: 4|A8 due, open: 10|A8 due, open: 0|A8 due, due: 0
-due all kinds: 0|due test kept back: 0|due test in a message: 0|first frame, 2 bytes, last True: 9
+wait ends, count 0 of 0: 8|wait ends, count full: 8|wait ends, count one short: 0|test ends, count 0 of 0: 8
+test ends, count full: 8|test ends, count one short: 0|kind open None: 1|kind open disconnect: 0|kind open test: 0
+close open: 0|due all kinds: 0|due test kept back: 0|due test in a message: 0|first frame, 2 bytes, last True: 9
 first frame, 2 bytes, last False: 9|thrown frame, 2 bytes, last False: 0|thrown frame, 8 bytes, last True: 0
 first frame short, last False, asks True: 0|first frame short, last True, asks True: 9
 first frame full, last False, asks True: 9|first frame full, last True, asks False: 0
@@ -323,42 +334,61 @@ data in order False, message waits True, asks True: 12|data in order False, mess
 data in order False, message waits False, asks False: 12|break, back True, begun to begun, message waits False: 0
 break, back True, begun to nothing, message waits False: 0|break, back True, thrown to nothing, message waits False: 0
 break, back True, thrown to begun, message waits False: 0|break, back True, thrown to thrown, message waits False: 0
-break, back False, nothing to nothing, message waits True: 0|carried to the car|carried to the box
-open rx too wide: 10|open unit too wide: 10|open block too wide: 10|open t1 too wide: 10|open t3 too wide: 10
-open te too wide: 10|open mntc too wide: 10|open repeats too wide: 10|open twait too wide: 10
-open interval too wide: 10|open tests too wide: 10|open 64 bits and more: 10|open 64 bits and more, setup: 4
-open 64 bits and more, parameters: 4|open 64 bits and more, open: 4|CR before LF|CR before LF, blank
-CR before LF, comment|CR twice: error|CR within: error|CR before LF, longest|CR before LF, too long: error
-take, flagged message begun: 5|data, flagged message waits: 5|data, flagged message waits: 12
-break into a flagged message, begun: 0|break into a flagged message, thrown: 0|break to before a flagged message: 0
-break, flagged message waits: 0|take with flags after an unflagged message: 0|take with flags after a flagged message: 0
+break, back False, nothing to nothing, message waits True: 0|CR before LF|CR before LF, blank|CR before LF, comment
+CR twice: error|CR within: error|CR before LF, longest|CR before LF, too long: error|take, flagged message begun: 5
+data, flagged message waits: 5|data, flagged message waits: 12|break into a flagged message, begun: 0
+break into a flagged message, thrown: 0|break to before a flagged message: 0|break, flagged message waits: 0
+take with flags after an unflagged message: 0|take with flags after a flagged message: 0
 take without flags after a flagged message: 0|take with flags after break into a flagged message, begun, 0: 0
 take with flags after break into a flagged message, thrown, 0: 0
 take with flags after break to before a flagged message, 0: 0
 take without flags after break to before a flagged message, 0: 0
 take with flags after break, flagged message waits, 0: 0|take with flags after data, flagged message waits, 5: 0
 take with flags after data, flagged message waits, 12: 0|take with flags after take, flagged message begun, 5: 0
-take with flags after take, flagged message waits, 7: 0
-take with flags after first frame of a flagged message, 0: 0
+take with flags after take, flagged message waits, 7: 0|take with flags after first frame of a flagged message, 0: 0
 take with flags after first frame of a flagged message, 7: 0
 take without flags after first frame of a flagged message, 7: 0
 take with flags after first frame of a flagged message, 9: 0
 take without flags after first frame of a flagged message, 9: 0
 take with flags after later frame of a flagged message, 0: 0
 take with flags after later frame of a flagged message, 7: 0
-take without flags after later frame of a flagged message, 9: 0
-ack of 8, open: 0 padded|ack of 8, open: 0 done padded|ack of 8, open: 8 padded|ack of 8, open: 12 padded
-test of 8, open: 0 padded|break of 8, open: 0 padded|disconnect of 8, open: 0 padded|A1 of 8, open: 0 padded
-A1 of 8, open: 2 padded|A1 of 8, open: 4 padded|ack of 8, parameters: 4 padded|test of 8, parameters: 4 padded
-break of 8, parameters: 4 padded|disconnect of 8, parameters: 0 padded|A1 of 8, parameters: 0 padded
-A1 of 8, parameters: 2 padded|A1 of 8, parameters: 4 padded|reply D0 of 8: 1|reply D6 of 8: 1|reply D7 of 8: 1
-reply D8 of 8: 1|data of 8, parameters: 4|data of 8, open: 0|data of 8, open: 5|data of 8, open: 7|data of 8, open: 9
-data of 8, open: 12|padded A1, parameters, block size good, behind it good: 0 padded
+take without flags after later frame of a flagged message, 9: 0|ack of 8, open: 0 padded|ack of 8, open: 0 done padded
+ack of 8, open: 8 padded|ack of 8, open: 12 padded|test of 8, open: 0 padded|break of 8, open: 0 padded
+disconnect of 8, open: 0 padded|A1 of 8, open: 0 padded|A1 of 8, open: 2 padded|A1 of 8, open: 4 padded
+data of 8, open: 0|data of 8, open: 5|data of 8, open: 7|data of 8, open: 9|data of 8, open: 12
+padded A1, open, block size good, behind it good: 0 padded|padded A1, open, block size good, behind it bad: 0 padded
+padded A1, open, block size bad, behind it good: 2 padded|padded A1, open, block size bad, behind it bad: 2 padded
+"""
+
+# Then, of the side that opens, the settings and the opening.
+REACHED = """
+open rx 0: 0|open rx 2047: 0|open rx 2048: 10|open unit 0: 0|open unit 239: 0|open unit 240: 10|open block 0: 10
+open block 1: 0|open block 15: 0|open block 16: 10|open t1 0: 10|open t1 64: 10|open t1 65: 0|open t1 128: 10
+open t1 192: 10|open t1 193: 0|open t1 255: 0|open t3 0: 0|open t3 255: 0|open te 0: 10|open te 1: 0|open te 10000: 0
+open te 10001: 10|open mntc 0: 0|open mntc 255: 0|open repeats 0: 0|open repeats 255: 0|open twait 0: 10|open twait 1: 0
+open twait 65535: 0|open interval 0: 0|open interval 65535: 0|open tests 0: 0|open tests 255: 0
+A1 block 0, asked True, due False: 2|A1 block 1, asked True, due False: 0|A1 block 15, asked True, due False: 0
+A1 block 16, asked True, due False: 2|A1 block 15, asked False, due True: 4|A1 block 16, asked False, due True: 4
+A1 block 15, asked True, due True: 0|time T_E one less: 0|time T_E equal: 0|time T_E equal: 8|time T_E one more: 0
+time longest, setup: 0|time longest, parameters: 0|T_E ends, count 0 of 0: 8|T_E ends, count full: 8
+T_E ends, count one short: 0|reply D0, asked True, due False: 0|reply D0, asked True, due True: 0
+reply D0, asked False, due True: 4|reply D0, asked True, due False: 1|reply D0, asked False, due True: 1
+reply D6, asked True, due False: 11|reply D7, asked True, due False: 11|reply D8, asked True, due False: 11
+reply D6, asked False, due True: 4|reply D6, asked True, due False: 1|kind parameters data: 4|kind parameters ack: 4
+kind parameters A0: 4|kind parameters test: 4|kind parameters break: 4|kind parameters disconnect: 0
+kind parameters None: 1|kind open A0: 4|close closed: 4|close setup: 0|close parameters: 0|frame closed: 4
+A8 due, time: 0|A8 due, frame: 4|A8 due, close: 4|A8 due, send: 4|A8 due, take: 4|A8 due, open: 10|A8 due, open: 0
+A8 due, due: 0|carried to the car|carried to the box|open rx too wide: 10|open unit too wide: 10|open block too wide: 10
+open t1 too wide: 10|open t3 too wide: 10|open te too wide: 10|open mntc too wide: 10|open repeats too wide: 10
+open twait too wide: 10|open interval too wide: 10|open tests too wide: 10|open 64 bits and more: 10
+open 64 bits and more, setup: 4|open 64 bits and more, parameters: 4|open 64 bits and more, open: 4
+ack of 8, parameters: 4 padded|test of 8, parameters: 4 padded|break of 8, parameters: 4 padded
+disconnect of 8, parameters: 0 padded|A1 of 8, parameters: 0 padded|A1 of 8, parameters: 2 padded
+A1 of 8, parameters: 4 padded|reply D0 of 8: 1|reply D6 of 8: 1|reply D7 of 8: 1|reply D8 of 8: 1
+data of 8, parameters: 4|padded A1, parameters, block size good, behind it good: 0 padded
 padded A1, parameters, block size good, behind it bad: 0 padded
 padded A1, parameters, block size bad, behind it good: 2 padded
-padded A1, parameters, block size bad, behind it bad: 2 padded|padded A1, open, block size good, behind it good: 0 padded
-padded A1, open, block size good, behind it bad: 0 padded|padded A1, open, block size bad, behind it good: 2 padded
-padded A1, open, block size bad, behind it bad: 2 padded
+padded A1, parameters, block size bad, behind it bad: 2 padded
 """
 
 
@@ -369,23 +399,40 @@ ANSWERS = ("0", "0 done", "0 frame", "0 message", "0 flags", *map(str, range(1, 
 OWN = {"ack": 1, "test": 1, "break": 1, "disconnect": 1, "A0": 6, "A1": 6}
 
 
-def summary(tally):
+def summary(tally, answers=ANSWERS):
     return "%d calls in %d scenarios, all alike; answers: %s" % (
-        tally["calls"], tally["scenarios"], ", ".join("%s x%d" % (name, tally[name]) for name in ANSWERS))
+        tally["calls"], tally["scenarios"], ", ".join("%s x%d" % (name, tally[name]) for name in answers))
 
 
-def missing(tally):
-    lengths = ["bytes %s %d: 1" % (phase, length) for phase in ("setup", "parameters", "open") for length in range(13)]
+def listed(text):
+    return [place for line in text.strip().split("\n") for place in line.split("|")]
+
+
+def with_padding(places):
+    """Padding alters nothing: what an Ack, a break or an A1 meets, a padded one has met too."""
+    return places + [place + " padded" for place in places
+                     if place.startswith(("ack ", "break", "A1 ")) and "padded" not in place]
+
+
+def at_lengths(phases):
+    """Where telegrams are sorted: every length badly formed, and every kind at every length that is not its own."""
+    return ["bytes %s %d: 1" % (phase, length) for phase in phases for length in range(13)] + [
+        "%s of %d, %s: 1" % (kind, length, phase) for kind, own in OWN.items() for length in range(1, 10)
+        if length not in (own, 8) or (kind, length) == ("A0", 8) for phase in phases]
+
+
+def open_places():
+    """All that a run at either side must have reached on an open connection."""
     flags = [place % nibble for nibble in range(16) for place in (
         "take, flags %X: 0", "take, flags %X: 7", "first frame, room one less, flags %X: 7",
         "first frame, room equal, flags %X: 0", "first frame, room one more, flags %X: 0",
         *("declared %d, flags %%X: %d" % pair for pair in DECLARED.items()))]
-    odd = ["%s of %d, %s: 1" % (kind, length, phase) for kind, own in OWN.items() for length in range(1, 10)
-           if length not in (own, 8) or (kind, length) == ("A0", 8) for phase in ("parameters", "open")]
+    return with_padding(listed(OPEN)) + flags
+
+
+def missing(tally):
+    lengths = ["bytes setup %d: 1" % length for length in range(13)] + at_lengths(("parameters", "open"))
     unsorted = [place % kind for kind in OWN
                 for place in ("%s of 8, closed: 4", "%s of 8, another ID: 3", "%s of 8, setup: 1")]
-    places = [place for line in REACHED.strip().split("\n") for place in line.split("|")]
-    # Padding alters nothing: what an Ack, a break or an A1 meets, a padded one has met too.
-    padded = [place + " padded" for place in places
-              if place.startswith(("ack ", "break", "A1 ")) and "padded" not in place]
-    return [name for name in [*ANSWERS, *lengths, *flags, *odd, *unsorted, *places, *padded] if not tally[name]]
+    wanted = [*ANSWERS, *lengths, *unsorted, *open_places(), *with_padding(listed(REACHED))]
+    return [name for name in wanted if not tally[name]]

@@ -17,7 +17,8 @@ use Rattle.channel.proofs.Adding.{elapsed-adds as channel-adds}
 use Rattle.open_end.specs.OpenEnd.{courseOf, elapsedAt}
 use Rattle.connection.specs.declared.Connection.{Connection}
 use Rattle.connection.specs.Calls.{settled, openElapsed, elapsed}
-use Rattle.connection.proofs.Rules.{atRest, plainly, elapsed-closed}
+use Rattle.open_end.proofs.Rules.{plainly}
+use Rattle.connection.proofs.Rules.{atRest, elapsed-closed}
 use Rattle.connection.proofs.Waiting.{asking, elapsed-no-wait, elapsed-less, elapsed-repeat, elapsed-gives-up}
 use Rattle.connection.proofs.Ends.{holding}
 

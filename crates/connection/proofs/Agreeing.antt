@@ -1,5 +1,5 @@
 -- The rules while the A1 is awaited, and of what it opens, in other words: the A0 as bytes, and what is agreed field by field.
-use Prim.Native.Nat.{ℕ, zero, suc, _*_, _/_, _%_, _^_, _<_, _≤_, min}
+use Prim.Native.Nat.{ℕ, _*_, _/_, _%_, _<_, _≤_, min}
 use native.Mathlib.Omega.{arith}
 use mathlib.Core.Bool.{true, false}
 use mathlib.Core.List.{List, [], _∷_}
@@ -7,33 +7,13 @@ use mathlib.Core.Path.{_≡_, refl}
 use borrow.Author.Tests.{eq-eqb, ne-eqb, lt-ltb, le-ltb}
 use Rattle.laws.proofs.Cases.{either}
 use Rattle.telegram.specs.Kinds.{badBlock, kindOf}
-use Rattle.telegram.specs.Time.{tenthsOf}
+use Rattle.settings.proofs.Agreement.{unit, tenths-are}
 use Rattle.channel.specs.declared.Answer.the-variants.{Good, Disconnected, Malformed, BlockSize, NotDue}
 use Rattle.connection.specs.declared.Connection.{Connection}
 use Rattle.connection.specs.Record.{listensOn, hears}
 use Rattle.connection.specs.Calls.{onAccept, onAgreeing, arrived, buffered, requestDue, dueOf, sentBy, takenBy, closed}
-use Rattle.connection.proofs.Rules.{atRest, plainly, noFrame}
-
--- ---- time codes
-
--- "unit 1, 10, 100 or 1,000 tenths"
-abbrev pub unit : ℕ → ℕ
-unit zero = 1
-unit (suc zero) = 10
-unit (suc (suc zero)) = 100
-unit (suc (suc (suc n))) = 1000
-
--- "Bits 7-6: unit .. Bits 5-0: multiplier"
-pub tenths-are : (code : ℕ) → code < 256 → tenthsOf code ≡ code % 64 * unit (code / 64)
-unfolding tenthsOf
-tenths-are code h = go (code / 64) (omega arith)
-  where
-    go : (q : ℕ) → q < 4 → code % 64 * 10 ^ q ≡ code % 64 * unit q
-    go zero h = refl
-    go (suc zero) h = refl
-    go (suc (suc zero)) h = refl
-    go (suc (suc (suc zero))) h = refl
-    go (suc (suc (suc (suc q)))) h = absurd (omega arith)
+use Rattle.open_end.proofs.Rules.{plainly, noFrame}
+use Rattle.connection.proofs.Rules.{atRest}
 
 -- ---- the A0
 

@@ -21,7 +21,8 @@ use Rattle.open_end.specs.OpenEnd.{courseOf, arrivedAt, bufferedAt, elapsedAt, 
 use Rattle.connection.specs.declared.Connection.{Connection}
 use Rattle.connection.specs.Record.{listensOn, hears}
 use Rattle.connection.specs.Calls.{settled, onOpen, arrived, buffered, openElapsed, elapsed, openDue, dueOf, openSent, sentBy, openTaken, takenBy, closed}
-use Rattle.connection.proofs.Rules.{atRest, plainly, noFrame}
+use Rattle.open_end.proofs.Rules.{plainly, noFrame}
+use Rattle.connection.proofs.Rules.{atRest}
 
 -- the same record with another channel
 abbrev pub holding : Connection → Channel → Connection

@@ -12,13 +12,10 @@ use Rattle.laws.proofs.Cases.{either}
 use Rattle.opening.specs.Opening.{clear, replyRead}
 use Rattle.settings.specs.Settings.{allowed}
 use Rattle.settings.specs.declared.Settings.{Settings}
-use Rattle.channel.specs.declared.Answer.{Answer as ChannelAnswer}
 use Rattle.channel.specs.declared.Answer.the-variants.{Good, Malformed, NotDue}
-use Rattle.open_end.specs.declared.answers.Answer.the-variants.{Channel as ByChannel, OtherId, OutOfRange, Refused}
-use Rattle.open_end.specs.declared.answers.Told.{Told}
-use Rattle.open_end.specs.declared.Frame.{Frame}
+use Rattle.open_end.specs.declared.answers.Answer.the-variants.{OtherId, OutOfRange, Refused}
 use Rattle.open_end.specs.Answers.{said}
-use Rattle.open_end.proofs.Rules.{noChannel}
+use Rattle.open_end.proofs.Rules.{noChannel, plainly, noFrame}
 use Rattle.connection.specs.declared.Connection.{Connection}
 use Rattle.connection.specs.Record.{closedRecord, leavingOn, listensOn, hears}
 use Rattle.connection.specs.Calls.{opening, onReply, arrived, buffered, elapsed, closedDue, requestDue, dueOf, sentBy, takenBy, closed}
@@ -52,14 +49,6 @@ atRest leaving transmit =
       leaving = leaving;
       end = record { transmit = transmit; receive = 0; channel = noChannel };
     }
-
--- an answer of an open channel: its number, and that no message in sending is done
-abbrev pub plainly : ChannelAnswer → ℕ → Told
-plainly a n = record { answer = ByChannel a; said = record { number = n; done = false; opcode = 0 } }
-
--- no frame: ID 0 and no bytes
-abbrev pub noFrame : Frame
-noFrame = record { id = 0; payload = record { len = 0; bytes = 0 ∷ 0 ∷ 0 ∷ 0 ∷ 0 ∷ 0 ∷ 0 ∷ 0 ∷ [] } }
 
 -- ---- closed records
 

@@ -9,7 +9,8 @@ use Rattle.channel.specs.declared.Answer.the-variants.{Good, UsedUp}
 use Rattle.connection.specs.declared.attempt.Attempt.{Attempt}
 use Rattle.connection.specs.declared.Connection.{Connection}
 use Rattle.connection.specs.Calls.{attemptElapsed, elapsed}
-use Rattle.connection.proofs.Rules.{atRest, plainly}
+use Rattle.open_end.proofs.Rules.{plainly}
+use Rattle.connection.proofs.Rules.{atRest}
 
 -- ---- T_E
 

@@ -17,6 +17,7 @@ use Rattle.telegram.specs.declared.kinds.Telegram.the-variants.{Data, Ack, Test
 use Rattle.telegram.specs.Cutting.{none}
 use Rattle.settings.specs.Settings.{allowed}
 use Rattle.settings.specs.declared.Settings.{Settings}
+use Rattle.settings.specs.Agreed.{ownFields}
 use Rattle.channel.specs.declared.Answer.{Answer as ChannelAnswer}
 use Rattle.channel.specs.declared.Answer.the-variants.{Good, Disconnected, Malformed, BlockSize, NotDue, UsedUp}
 use Rattle.open_end.specs.declared.answers.Answer.the-variants.{Channel, OtherId, OutOfRange, Refused}
@@ -34,7 +35,7 @@ use Rattle.connection.specs.declared.Arrived.{Arrived}
 use Rattle.connection.specs.declared.Due.{Due}
 use Rattle.connection.specs.declared.TakeStep.{TakeStep}
 use Rattle.connection.specs.declared.Taken.{Taken}
-use Rattle.connection.specs.Record.{isClosed, isRequesting, isAgreeing, isOpen, closedRecord, leavingOn, requesting, agreeing, ownFields, opened, withAttempt, withOpenEnd, hears}
+use Rattle.connection.specs.Record.{isClosed, isRequesting, isAgreeing, isOpen, closedRecord, leavingOn, requesting, agreeing, opened, withAttempt, withOpenEnd, hears}
 
 -- ---- what a call gives
 

@@ -1,15 +1,14 @@
 -- 01, "The record and its calls" and "Opening": the record of the side that opens, and what it stands at.
-use Prim.Native.Nat.{ℕ, _+_, min}
+use Prim.Native.Nat.{ℕ, _+_}
 use mathlib.Core.Bool.{Bool, true, false, not, _||_}
 use lib.Dec.{eqb}
 use mathlib.Core.Option.{Option, none, some}
 use Rattle.laws.specs.If.{if_then_else_}
-use Rattle.telegram.specs.Time.{tenthsOf}
 use Rattle.telegram.specs.declared.kinds.Parameters.{Parameters as Fields}
 use Rattle.opening.specs.Opening.{requestId}
 use Rattle.settings.specs.Settings.{defaults}
 use Rattle.settings.specs.declared.Settings.{Settings}
-use Rattle.channel.specs.declared.Parameters.{Parameters}
+use Rattle.settings.specs.Agreed.{agreed}
 use Rattle.open_end.specs.OpenEnd.{unopened, freshEnd}
 use Rattle.open_end.specs.declared.OpenEnd.{OpenEnd}
 use Rattle.connection.specs.declared.attempt.Attempt.{Attempt}
@@ -71,20 +70,6 @@ requesting s = record { phase = phaseRequesting; settings = s; attempt = newAtte
 abbrev pub agreeing : Connection → ℕ → Connection
 agreeing c transmit =
     record { phase = phaseAgreeing; settings = c .settings; attempt = newAttempt; leaving = false; end = unopened transmit (c .settings .receive) }
-
--- the fields of our own A0 and A1
-abbrev pub ownFields : Settings → Fields
-ownFields s = record { block = s .block; t1 = s .t1; t3 = s .t3 }
-
--- what is agreed: the smaller block size, our own T1, the peer's T3
-abbrev pub agreed : Settings → Fields → Parameters
-agreed s p =
-    record {
-      terms = record { block = min (s .block) (p .block); t1 = tenthsOf (s .t1); t3 = tenthsOf (p .t3); repeats = s .mntb; «t_wait» = s .«t_wait» };
-      interval = s .«t_ct»;
-      allowed = s .mnct;
-      own = ownFields s;
-    }
 
 -- the A1 opens the channel: all numbers start at 0, and nothing is left from before
 abbrev pub opened : Connection → Fields → Connection

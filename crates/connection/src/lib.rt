@@ -2,7 +2,7 @@
 // connection does is `open_end`; here stand opening, closing and who is listened to.
 //
 // Every call is good in every state and for every byte: what is not due, not well formed or not possible is refused by its
-// number in the protocol's table, and a refusal changes neither the record (but for an asked-for Ack) nor the buffer.
+// number in the protocol's table; a refusal changes the record only as the table says, and never the buffer.
 ghost use mathlib.Core.Path.{_≡_};
 ghost use lib.ListN.{length};
 ghost use Rattle.telegram.specs.Cutting.{longest};
@@ -10,8 +10,6 @@ ghost use Rattle.opening.specs.declared.Reply.the-variants.{Positive, Refused a
 ghost use Rattle.open_end.specs.OpenEnd.{bufferedAt};
 ghost use Rattle.connection.specs.Record.{closedRecord, leavingOn, requesting, agreeing, opened, hears, isOpen};
 ghost use Rattle.connection.specs.Calls.{gives, marked, handOver, handNothing, shows, opening, onReply, onAccept, onAgreeing, settled, onOpen, arrived, buffered, attemptElapsed, openElapsed, elapsed, closedDue, requestDue, openDue, dueOf, openSent, sentBy, openTaken, takenBy, takes, looked, closed};
-use crate::agreed::agree;
-use crate::agreed::own_fields;
 use crate::attempt::Attempt;
 use crate::attempt::new_attempt;
 use crate::attempt::no_attempt;
@@ -29,6 +27,8 @@ use opening::Reply;
 use opening::read_reply;
 use opening::write_request;
 use settings::Settings;
+use settings::agreed::agree;
+use settings::agreed::own_fields;
 use telegram::cutting::Message;
 use telegram::cutting::NONE;
 use telegram::kinds::Parameters as Fields;
@@ -39,7 +39,6 @@ use telegram::kinds::write_disconnect;
 use telegram::kinds::write_setup;
 use telegram::time::less;
 
-mod agreed;
 pub mod attempt;
 
 // The phases: closed, C0 unanswered, A0 unanswered, open.

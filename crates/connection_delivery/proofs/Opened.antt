@@ -18,22 +18,24 @@ use Rattle.telegram.proofs.RoundTrip.{accept-sorted}
 use Rattle.opening.proofs.RoundTrip.{positive-read}
 use Rattle.settings.specs.Settings.{allowed}
 use Rattle.settings.specs.declared.Settings.{Settings}
+use Rattle.settings.specs.Agreed.{ownFields}
 use Rattle.channel.specs.declared.Answer.the-variants.{Good}
 use Rattle.open_end.specs.declared.answers.Answer.the-variants.{Channel}
 use Rattle.connection.specs.declared.Connection.{Connection}
-use Rattle.connection.specs.Record.{listensOn, hears, closedRecord, withAttempt, requesting, agreeing, ownFields, opened}
-use Rattle.connection.specs.Calls.{gives, marked, handOver, opening, onReply, onAccept, onAgreeing, arrived, attemptOut, requestDue, dueOf}
+use Rattle.connection.specs.Record.{listensOn, hears, closedRecord, withAttempt, requesting, agreeing, opened}
+use Rattle.connection.specs.Calls.{gives, marked, handOver, opening, onReply, onAccept, onAgreeing, arrived, requestDue, dueOf}
 use Rattle.delivery.specs.System.{Try}
 use Rattle.delivery.specs.Claim.{Fresh}
 use Rattle.connection_delivery.specs.Opening.{exchange, openedPair}
 
 -- what the theorem needs of allowed settings
-record Allowed (s : Settings) : Type 0 where
-  receive : s .receive < 2048
-  least : 1 ≤ s .block
-  most : s .block ≤ 15
-  t1 : 1 ≤ tenthsOf (s .t1)
-  «t_wait» : 1 ≤ s .«t_wait»
+pub record Allowed (s : Settings) : Type 0 where
+  pub receive : s .receive < 2048
+  pub least : 1 ≤ s .block
+  pub most : s .block ≤ 15
+  pub t1 : 1 ≤ tenthsOf (s .t1)
+  pub «t_e» : 1 ≤ s .«t_e»
+  pub «t_wait» : 1 ≤ s .«t_wait»
 
 -- a time code whose scale is not 0 is at least one tenth
 tenths-some : (code : ℕ) → not (eqb (code % 64) 0) ≡ true → 1 ≤ tenthsOf code
@@ -43,12 +45,13 @@ tenths-some code e = one-le-mul (omega (arith, eqb-false (code % 64) 0 (not-true
 eleven-bits : (id : ℕ) → leb id 0x7FF ≡ true → id < 2048
 eleven-bits id e = omega (arith, leb-true id 0x7FF e)
 
-allowed-parts : (s : Settings) → allowed s ≡ true → Allowed s
+pub allowed-parts : (s : Settings) → allowed s ≡ true → Allowed s
 unfolding allowed badBlock
 allowed-parts s e =
     let to-pause = both _ _ e in
     let to-reply = both _ _ (to-pause .0) in
-    let to-t1 = both _ _ (both _ _ (to-reply .0) .0) in
+    let from-reply = both _ _ (to-reply .0) in
+    let to-t1 = both _ _ (from-reply .0) in
     let to-block = both _ _ (to-t1 .0) in
     let to-unit = both _ _ (to-block .0) in
     let block : badBlock (s .block) ≡ false = not-true (badBlock (s .block)) (to-block .1) in
@@ -57,50 +60,55 @@ allowed-parts s e =
       least = omega (arith, eqb-false (s .block) 0 (or-first (eqb (s .block) 0) (ltb 15 (s .block)) block));
       most = ltb-false 15 (s .block) (or-second (eqb (s .block) 0) (ltb 15 (s .block)) block);
       t1 = tenths-some (s .t1) (to-t1 .1);
+      «t_e» = leb-true 1 (s .«t_e») (from-reply .1);
       «t_wait» = leb-true 1 (s .«t_wait») (to-pause .1);
     }
 
 -- ---- one end
 
--- the record once its request was handed over
-abbrev asked : Connection → Connection
-asked c = withAttempt c (attemptOut c)
+-- the record once its request was handed over, with what is left of T_E
+abbrev pub awaiting : Connection → (left : ℕ) → Connection
+awaiting c left = withAttempt c (record { due = false; asked = true; wait = left; repeats = 0 })
 
-module _ (limit : ℕ) (s : Settings) (a : allowed s ≡ true) (transmit : ℕ) (h : transmit < 2048) (f : Fields) (least : 1 ≤ f .block) (most : f .block ≤ 15) (room : ℕ) where
+module _ (limit : ℕ) (s : Settings) (a : allowed s ≡ true) where
   is-opened : opening closedRecord s ≡ gives Good (requesting s)
   unfolding opening
   is-opened = rw a
 
-  hands-c0 : dueOf (requesting s) []
-      ≡ handOver (record { id = requestId; payload = requestOf (s .unit) (s .receive) }) (asked (requesting s))
+  pub hands-c0 : (m : List ℕ) → dueOf (requesting s) m
+      ≡ handOver (record { id = requestId; payload = requestOf (s .unit) (s .receive) }) (awaiting (requesting s) (s .«t_e»))
   unfolding dueOf requestDue
-  hands-c0 = refl
+  hands-c0 m = refl
 
-  d0-arrives : arrived limit (asked (requesting s)) (requestId + s .unit) (bytesOf (replyOf 0xD0 (s .receive) transmit)) room
-      ≡ marked false (gives Good (agreeing (requesting s) transmit))
-  unfolding hears listensOn arrived onReply
-  d0-arrives = rw (eq-eqb (requestId + s .unit) _ refl, positive-read (s .receive) transmit (allowed-parts s a .receive) h)
+  module _ (transmit : ℕ) where
+    pub d0-arrives : transmit < 2048 → (left room : ℕ)
+        → arrived limit (awaiting (requesting s) left) (requestId + s .unit) (bytesOf (replyOf 0xD0 (s .receive) transmit)) room
+        ≡ marked false (gives Good (agreeing (requesting s) transmit))
+    unfolding hears listensOn arrived onReply
+    d0-arrives h left room = rw (eq-eqb (requestId + s .unit) _ refl, positive-read (s .receive) transmit (allowed-parts s a .receive) h)
 
-  hands-a0 : dueOf (agreeing (requesting s) transmit) []
-      ≡ handOver (record { id = transmit; payload = setupOf (ownFields s) }) (asked (agreeing (requesting s) transmit))
-  unfolding dueOf requestDue
-  hands-a0 = refl
+    pub hands-a0 : (m : List ℕ) → dueOf (agreeing (requesting s) transmit) m
+        ≡ handOver (record { id = transmit; payload = setupOf (ownFields s) }) (awaiting (agreeing (requesting s) transmit) (s .«t_e»))
+    unfolding dueOf requestDue
+    hands-a0 m = refl
 
-  a1-arrives : arrived limit (asked (agreeing (requesting s) transmit)) (s .receive) (bytesOf (acceptOf f)) room
-      ≡ marked false (gives Good (opened (agreeing (requesting s) transmit) f))
-  unfolding hears listensOn arrived onAgreeing onAccept badBlock
-  a1-arrives =
-      rw (eq-eqb (s .receive) _ refl, ap (λ x. x .padded) (accept-sorted f), ap (λ x. x .kind) (accept-sorted f), ne-eqb (f .block) 0 (omega (arith, least)), le-ltb 15 (f .block) most)
+    pub a1-arrives : (f : Fields) → 1 ≤ f .block → f .block ≤ 15 → (left room : ℕ)
+        → arrived limit (awaiting (agreeing (requesting s) transmit) left) (s .receive) (bytesOf (acceptOf f)) room
+        ≡ marked false (gives Good (opened (agreeing (requesting s) transmit) f))
+    unfolding hears listensOn arrived onAgreeing onAccept badBlock
+    a1-arrives f least most left room =
+        rw (eq-eqb (s .receive) _ refl, ap (λ x. x .padded) (accept-sorted f), ap (λ x. x .kind) (accept-sorted f), ne-eqb (f .block) 0 (omega (arith, least)), le-ltb 15 (f .block) most)
 
-  -- all five calls are answered 0, the C0 and the A0 are handed over, and the record is open
-  pub opened-fresh : exchange limit s transmit f room
-      ≡ record {
-        answers = replicate 5 (Channel Good);
-        frames = record { id = requestId; payload = requestOf (s .unit) (s .receive) } ∷ record { id = transmit; payload = setupOf (ownFields s) } ∷ [];
-        connection = opened (agreeing (requesting s) transmit) f;
-      }
-  unfolding exchange
-  opened-fresh = rw (is-opened, hands-c0, d0-arrives, hands-a0, a1-arrives)
+    -- all five calls are answered 0, the C0 and the A0 are handed over, and the record is open
+    pub opened-fresh : transmit < 2048 → (f : Fields) → 1 ≤ f .block → f .block ≤ 15 → (room : ℕ) → exchange limit s transmit f room
+        ≡ record {
+          answers = replicate 5 (Channel Good);
+          frames = record { id = requestId; payload = requestOf (s .unit) (s .receive) } ∷ record { id = transmit; payload = setupOf (ownFields s) } ∷ [];
+          connection = opened (agreeing (requesting s) transmit) f;
+        }
+    unfolding exchange
+    opened-fresh h f least most room =
+        rw (is-opened, hands-c0 [], d0-arrives h (s .«t_e») room, hands-a0 [], a1-arrives f least most (s .«t_e») room)
 
 -- ---- two ends
 

@@ -1,8 +1,5 @@
-pub mod Tables
-pub mod Words
-pub mod Same
-pub mod Tests
 pub mod Bytes
+pub mod Ways
 pub mod Arrival
 pub mod Calls
 pub mod Rows

@@ -1,32 +1,41 @@
 -- For each call and each number: the number is said exactly where a row of it holds and none before it in the call's table does,
--- and what the call leaves with it. The tables stand in specs/Rows.antt, `Says` and `Given` in specs/Tables.antt.
-use Prim.Native.Nat.{ℕ, _+_}
+-- and what the call leaves with it. The tables stand in specs/Rows.antt, `Says` and `Given` in crates/open_rows/specs/Tables.antt.
+use Prim.Native.Nat.{ℕ}
 use mathlib.Core.Bool.{Bool, true, false, not, _&&_, _||_, or-false, true≢false, false≢true}
 use mathlib.Core.List.{List}
 use mathlib.Core.Logic.{_↔_, _≢_}
 use mathlib.Core.Path.{_≡_, refl, sym, ap, _∙_}
-use lib.ListN.{length, getD}
+use lib.ListN.{getD}
 use lib.Dec.{eqb}
 use borrow.Author.Tests.{ne-eqb, not-true}
 use Rattle.laws.specs.If.{if_then_else_}
-use Rattle.laws.proofs.Cases.{either, and-first, and-second, or-first, or-second, neither}
+use Rattle.laws.proofs.Cases.{either, and-first, and-second, or-first, or-second}
 use Rattle.telegram.specs.declared.cutting.Message.{Message}
 use Rattle.settings.specs.declared.Settings.{Settings}
+use Rattle.channel.specs.declared.Channel.{Channel}
 use Rattle.open_end.specs.declared.answers.Said.{Said}
 use Rattle.connection.specs.declared.Connection.{Connection}
 use Rattle.connection.specs.Calls.{closedDue, dueOf}
-use Rattle.connection_rows.specs.Tables.{plain, toldBy, Given, Says}
-use Rattle.connection_rows.specs.Records.{isClosed, isRequesting, isAgreeing, closedRecord, leavingOn, asking, onSender, onReceiver}
-use Rattle.connection_rows.specs.Rows.{carriedBy, single, messageAccepted, isWaiting, isData, asksAck, isSetup, isPadded, kindNotDue, otherId, noMessage, isHolding, ahead, isBeyond, atFirst, waitsUntaken, askedForAck, thrownAway, finishes, recordAfter, bufferAfter, arrivalTable, arriveSays, openTable, openSays, recordLater, timeTable, timeSays, hands, handsNone, dueTable, dueSays, sendTable, sendSays, messageTaken, takeTable, takeSays, closeTable, closeSays}
-use Rattle.connection_rows.proofs.Tables.{Leaving, given, says, every, every-held}
-use Rattle.connection_rows.proofs.Bytes.{telegram, ack-kind, data-unpadded, setup-unpadded, refusal-unpadded}
-use Rattle.connection_rows.proofs.Tests.{other-phase}
+use Rattle.open_rows.specs.Tables.{plain, always, toldBy, Given, Says}
+use Rattle.open_rows.specs.Records.{onSender, onReceiver}
+use Rattle.open_rows.specs.Rows.{isSetup, isPadded, atFirst, askedForAck, thrownAway, finishes, bufferAfter, hands, handsNone, single, messageAccepted, messageTaken}
+use Rattle.open_rows.proofs.Tables.{Leaving, given, says, every, every-held}
+use Rattle.open_rows.proofs.Bytes.{setup-unpadded}
+use Rattle.open_rows.proofs.Tests.{other-phase}
+use Rattle.open_rows.proofs.Rows.{bare, with-mark, carries, finishing}
+use Rattle.connection_rows.specs.Records.{isClosed, isRequesting, isAgreeing, isOpen, closedRecord, leavingOn, asking, onChannel}
+use Rattle.connection_rows.specs.Rows.{kindNotDue, otherId, recordAfter, arrivalTable, arriveSays, openTable, openSays, recordLater, timeTable, timeSays, dueTable, dueSays, sendTable, sendSays, takeTable, takeSays, closeTable, closeSays}
+use Rattle.connection_rows.proofs.Ways.{waysOf}
+use Rattle.connection_rows.proofs.Bytes.{refusal-unpadded}
 use Rattle.connection_rows.proofs.Arrival.{arrive-told}
 use Rattle.connection_rows.proofs.Calls.{open-told, time-told, due-told, send-told, take-told, close-told}
 
 -- ---- a frame arrives
 
 module _ (limit : ℕ) (c : Connection) (id : ℕ) (s b : List ℕ) where
+  abbrev ch : Channel
+  ch = c .end .channel
+
   abbrev Arrives : ℕ → Bool × Connection × List ℕ → Type 0
   Arrives n x = Says n x (arriveSays limit c id s b) (arrivalTable limit c id s b)
 
@@ -37,7 +46,7 @@ module _ (limit : ℕ) (c : Connection) (id : ℕ) (s b : List ℕ) where
   pub arrive-row : (n : ℕ) → (arriveSays limit c id s b .0 .number ≡ n) ↔ Given n (arriveSays limit c id s b .1) (arrivalTable limit c id s b)
   arrive-row = given (arrivalTable limit c id s b) (arrive-told limit c id s b)
 
-  pub arrive-row-0 : Arrives 0 (isPadded s, recordAfter c s, bufferAfter c s b)
+  pub arrive-row-0 : Arrives 0 (isPadded s, recordAfter c s, if isOpen c then bufferAfter ch s b else b)
   arrive-row-0 = arrive 0 refl
 
   pub arrive-row-1 : Arrives 1 (false, c, b)
@@ -60,26 +69,26 @@ module _ (limit : ℕ) (c : Connection) (id : ℕ) (s b : List ℕ) where
   pub arrive-row-4 : Arrives 4 (not (isClosed c) && isPadded s, c, b)
   arrive-row-4 = arrive 4 (λ closed. rw closed, (λ undue. rw (← undue-mark undue), tt))
 
-  pub arrive-row-5 : Arrives 5 (false, askedForAck c s, b)
+  pub arrive-row-5 : Arrives 5 (false, onChannel c (askedForAck ch s), b)
   arrive-row-5 = arrive 5 (λ _. refl, tt)
 
-  pub arrive-row-7 : Arrives 7 (false, if atFirst c then thrownAway c s else c, b)
+  pub arrive-row-7 : Arrives 7 (false, if atFirst ch then onChannel c (thrownAway ch s) else c, b)
   arrive-row-7 =
       arrive 7 (
-        λ h. let later : atFirst c ≡ false = not-true (atFirst c) (search (and-first, and-second)) in rw later,
-        (λ h. let first : atFirst c ≡ true = search (and-first, and-second) in rw first, tt),
+        λ h. let later : atFirst ch ≡ false = not-true (atFirst ch) (search (and-first, and-second)) in rw later,
+        (λ h. let first : atFirst ch ≡ true = search (and-first, and-second) in rw first, tt),
       )
 
   pub arrive-row-8 : Arrives 8 (isPadded s, closedRecord, b)
   arrive-row-8 = arrive 8 (λ _. refl, tt)
 
-  pub arrive-row-9 : Arrives 9 (false, thrownAway c s, b)
+  pub arrive-row-9 : Arrives 9 (false, onChannel c (thrownAway ch s), b)
   arrive-row-9 = arrive 9 (λ _. refl, tt)
 
   pub arrive-row-11 : Arrives 11 (false, closedRecord, b)
   arrive-row-11 = arrive 11 (λ _. refl, tt)
 
-  pub arrive-row-12 : Arrives 12 (isPadded s, askedForAck c s, b)
+  pub arrive-row-12 : Arrives 12 (isPadded s, onChannel c (askedForAck ch s), b)
   arrive-row-12 = arrive 12 (λ _. refl, tt)
 
   -- "A refusal never writes to the buffer"
@@ -100,13 +109,7 @@ module _ (limit : ℕ) (c : Connection) (id : ℕ) (s b : List ℕ) where
       → (isPadded s ≡ true) × (arriveSays limit c id s b .0 .number ≢ 1) × (arriveSays limit c id s b .0 .number ≢ 3)
   marked-carries =
       every (arrivalTable limit c id s b) (arrive-told limit c id s b) (λ a x. x .0 ≡ true → (isPadded s ≡ true) × (a .number ≢ 1) × (a .number ≢ 3))
-      (none, (none, (none, (carries 4 refl, (carries 2 refl, (none, (carries 12 refl, (carries 8 refl, (none, (none, (none, (none, carries 0 refl))))))))))))
-    where
-      none : {n : ℕ} → false ≡ true → (isPadded s ≡ true) × (n ≢ 1) × (n ≢ 3)
-      none e = absurd (false≢true e)
-
-      carries : (n : ℕ) → (eqb n 1 || eqb n 3) ≡ false → isPadded s ≡ true → (isPadded s ≡ true) × (n ≢ 1) × (n ≢ 3)
-      carries n h e = let k = neither n 1 3 h in (e, k .0, k .1)
+      (bare, (bare, (bare, (with-mark 4 refl, (with-mark 2 refl, (bare, (with-mark 12 refl, (with-mark 8 refl, (bare, (bare, (bare, (bare, with-mark 0 refl))))))))))))
 
   standing : arriveSays limit c id s b .1 .0 ≡ true → isClosed c ≡ false
   standing m = either (isClosed c) (λ closed. absurd (false≢true (sym (told-mark ∙ rw closed) ∙ m))) (λ closed. closed)
@@ -129,40 +132,19 @@ module _ (limit : ℕ) (c : Connection) (id : ℕ) (s b : List ℕ) where
                 λ _ one three. padded,
                 (
                   λ r. absurd (false≢true (sym (refusal-unpadded s (search and-second)) ∙ padded)),
-                  (
-                    λ _ one three. padded,
-                    (
-                      λ _ one three. padded,
-                      (
-                        λ h. no-data (search (and-first, and-second)),
-                        (
-                          λ h. no-data (search (and-first, and-second)),
-                          (
-                            λ h. no-data (search (and-first, and-second)),
-                            (
-                              λ h. no-data (search (and-first, and-second)),
-                              λ one three. padded,
-                            ),
-                          ),
-                        ),
-                      ),
-                    ),
-                  ),
+                  carries (waysOf c) limit ch s b (isOpen c) (always (plain 0) (isPadded s, c, b)) padded (λ one three. padded),
                 ),
               ),
             ),
           ),
         ),
       )
-    where
-      no-data : {P : Type 0} → isData s ≡ true → P
-      no-data d = absurd (false≢true (sym (data-unpadded s d) ∙ padded))
 
   pub arrive-marks : (arriveSays limit c id s b .1 .0 ≡ true)
       ↔ ((isPadded s ≡ true) × (isClosed c ≡ false) × (arriveSays limit c id s b .0 .number ≢ 1) × (arriveSays limit c id s b .0 .number ≢ 3))
   arrive-marks = (λ m. let k = marked-carries m in (k .0, standing m, k .1, k .2), λ g. carries-marked (g .0) (g .1) (g .2) (g .3))
 
-  not-done : finishes c s ≡ false → arriveSays limit c id s b .0 .done ≡ false
+  not-done : (isOpen c && finishes ch s) ≡ false → arriveSays limit c id s b .0 .done ≡ false
   not-done f =
       every (arrivalTable limit c id s b) (arrive-told limit c id s b) (λ a x. a .done ≡ false)
       (refl, (refl, (refl, (refl, (refl, (refl, (refl, (refl, (refl, (refl, (refl, (refl, f))))))))))))
@@ -173,35 +155,21 @@ module _ (limit : ℕ) (c : Connection) (id : ℕ) (s b : List ℕ) where
   not-ours : otherId c id ≡ true → arriveSays limit c id s b .0 .done ≡ false
   not-ours o = told-done ∙ (either (isClosed c) (λ e. rw e) (λ e. rw (e, o)))
 
-  -- an Ack that finishes the message is refused by no row
-  finishing : otherId c id ≡ false → finishes c s ≡ true → arriveSays limit c id s b .0 .done ≡ true
-  finishing same f =
-      let phases : (isClosed c || isRequesting c || isAgreeing c) ≡ false = not-true (isClosed c || isRequesting c || isAgreeing c) (search (and-first, and-second)) in
+  finishes-there : isOpen c ≡ true → otherId c id ≡ false → finishes ch s ≡ true → arriveSays limit c id s b .0 .done ≡ true
+  finishes-there open′ same f =
+      let phases : (isClosed c || isRequesting c || isAgreeing c) ≡ false = not-true (isClosed c || isRequesting c || isAgreeing c) open′ in
       let closed : isClosed c ≡ false = search (or-first, or-second) in
       let req : isRequesting c ≡ false = search (or-first, or-second) in
       let agr : isAgreeing c ≡ false = search (or-first, or-second) in
-      let k = ack-kind s (search (and-first, and-second)) in
-      let some : noMessage c ≡ false = not-true (noMessage c) (search (and-first, and-second)) in
-      let free : isHolding c ≡ false = not-true (isHolding c) (search (and-first, and-second)) in
-      let far : eqb (ahead c s) 0 ≡ false = not-true (eqb (ahead c s) 0) (search (and-first, and-second)) in
-      let near : isBeyond c s ≡ false = not-true (isBeyond c s) (search (and-first, and-second)) in
-      let end : carriedBy (c .end .channel .sender .length) (c .end .channel .sender .acked + ahead c s) ≡ true = search (and-first, and-second) in
-      told-done ∙ rw (closed, same, req, agr, telegram k, k .data′, k .ack, k .accept, k .setup, some, free, far, near, end)
+      told-done ∙ rw (closed, same, req, agr) (finishing (waysOf c) limit ch s b f)
 
   -- "The message is done when its last frame is acknowledged, and the answer to that Ack says so"
-  pub arrive-done : (arriveSays limit c id s b .0 .done ≡ true) ↔ ((otherId c id ≡ false) × (finishes c s ≡ true))
+  pub arrive-done : (arriveSays limit c id s b .0 .done ≡ true) ↔ ((isOpen c ≡ true) × (otherId c id ≡ false) × (finishes ch s ≡ true))
   arrive-done = (
-    λ d. (either (otherId c id) (λ o. absurd (true≢false (sym d ∙ not-ours o))) (λ o. o), either (finishes c s) (λ f. f) (λ f. absurd (true≢false (sym d ∙ not-done f)))),
-    λ g. finishing (g .0) (g .1),
+    λ d. let f : (isOpen c && finishes ch s) ≡ true = either (isOpen c && finishes ch s) (λ f. f) (λ f. absurd (true≢false (sym d ∙ not-done f))) in
+        (search and-first, either (otherId c id) (λ o. absurd (true≢false (sym d ∙ not-ours o))) (λ o. o), search and-second),
+    λ g. finishes-there (g .0) (g .1) (g .2),
   )
-
--- row 5's Ack is "not ready"
-pub asked-not-ready : (c : Connection) (s : List ℕ) → waitsUntaken c s ≡ true → asksAck s ≡ true
-    → askedForAck c s .end .channel .receiver .ack ≡ record { due = true; ready = false; number = c .end .channel .receiver .at .expected }
-asked-not-ready c s w a =
-    let d : isData s ≡ true = search (and-first, and-second) in
-    let u : isWaiting c ≡ true = search (and-first, and-second) in
-    rw (d, a, u)
 
 -- ---- open
 
@@ -259,7 +227,7 @@ module _ (limit : ℕ) (c : Connection) (n : ℕ) where
   pub send-row : (m : ℕ) → (sendSays limit c n .0 .number ≡ m) ↔ Given m (sendSays limit c n .1) (sendTable limit c n)
   send-row = given (sendTable limit c n) (send-told limit c n)
 
-  pub send-row-0 : Says 0 (onSender c (messageAccepted (c .end .channel .sender) n)) (sendSays limit c n) (sendTable limit c n)
+  pub send-row-0 : Says 0 (onChannel c (onSender (c .end .channel) (messageAccepted (c .end .channel .sender) n))) (sendSays limit c n) (sendTable limit c n)
   send-row-0 = says _ (send-told limit c n) 0 refl
 
   pub send-row-4 : Says 4 c (sendSays limit c n) (sendTable limit c n)
@@ -280,7 +248,7 @@ module _ (c : Connection) (room : ℕ) where
   abbrev complete : Message
   complete = c .end .channel .receiver .complete
 
-  pub take-row-0 : Says 0 (complete .length, complete .flags, onReceiver c (messageTaken (c .end .channel .receiver))) (takeSays c room) (takeTable c room)
+  pub take-row-0 : Says 0 (complete .length, complete .flags, onChannel c (onReceiver (c .end .channel) (messageTaken (c .end .channel .receiver)))) (takeSays c room) (takeTable c room)
   take-row-0 = says _ (take-told c room) 0 refl
 
   pub take-row-4 : Says 4 (0, 0, c) (takeSays c room) (takeTable c room)

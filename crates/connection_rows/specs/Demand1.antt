@@ -11,19 +11,12 @@ use denote.Ref.{RefT, now}
 use Rattle.laws.specs.If.{if_then_else_}
 use Rattle.telegram.specs.Cutting.{longest}
 use Rattle.settings.specs.declared.Settings.{Settings}
-use Rattle.open_end.specs.declared.answers.Said.{Said}
+use Rattle.open_rows.specs.Tables.{toldBy, GoesBy}
+use Rattle.open_rows.specs.Rows.{isPadded, finishes}
 use Rattle.connection.specs.declared.Connection.{Connection}
 use Rattle.connection.specs.Calls.{takes}
-use Rattle.connection_rows.specs.Tables.{Table, toldBy, Given}
-use Rattle.connection_rows.specs.Records.{isClosed}
-use Rattle.connection_rows.specs.Rows.{isPadded, otherId, finishes, arrivalTable, arriveSays, openTable, openSays, timeTable, timeSays, dueTable, dueSays, sendTable, sendSays, takeTable, takeSays, closeTable, closeSays}
-
--- a call that says and leaves `told` goes by a table
-pub record GoesBy {A : Type 0} (told : Said × A) (t : Table A) : Type 0 where
-  -- what it says and leaves is what the table tells
-  pub tells : told ≡ toldBy t
-  -- "Given exactly when": it says a number where a row of that number holds and none before it does, leaving what that row leaves, and nowhere else
-  pub exactly : (n : ℕ) → (told .0 .number ≡ n) ↔ Given n (told .1) t
+use Rattle.connection_rows.specs.Records.{isClosed, isOpen}
+use Rattle.connection_rows.specs.Rows.{otherId, arrivalTable, arriveSays, openTable, openSays, timeTable, timeSays, dueTable, dueSays, sendTable, sendSays, takeTable, takeSays, closeTable, closeSays}
 
 -- what 01 says of the numbers, call by call; the limit is the longest message's length
 pub record Demand1 : Type 0 where
@@ -62,7 +55,7 @@ pub record Demand1 : Type 0 where
   -- "The message is done when its last frame is acknowledged, and the answer to that Ack says so"
   pub done :
       (limit : ℕ) (c : Connection) (id : ℕ) (s b : List ℕ) →
-      (arriveSays limit c id s b .0 .done ≡ true) ↔ ((otherId c id ≡ false) × (finishes c s ≡ true))
+      (arriveSays limit c id s b .0 .done ≡ true) ↔ ((isOpen c ≡ true) × (otherId c id ≡ false) × (finishes (c .end .channel) s ≡ true))
   -- "Every answer to an arriving frame, but 1, 3 and a closed record's 4, carries that mark on" (02, request 4): of a telegram of 8 bytes that is no data
   pub marks :
       (limit : ℕ) (c : Connection) (id : ℕ) (s b : List ℕ) →

@@ -1,4 +1,3 @@
-pub mod Tables
 pub mod Records
 pub mod Rows
 pub mod Demand1

@@ -8,7 +8,8 @@
 //
 // Standard input has the number of rounds, 1 to 1,000,000; with no input one is played.
 ghost use mathlib.Core.Path.{_≡_};
-ghost use Rattle.connection.specs.Record.{requesting, agreeing, opened, ownFields};
+ghost use Rattle.settings.specs.Agreed.{ownFields};
+ghost use Rattle.connection.specs.Record.{requesting, agreeing, opened};
 use connection::Connection;
 use connection::OPEN;
 use connection::attempt::Attempt;

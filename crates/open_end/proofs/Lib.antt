@@ -1,2 +1,4 @@
 pub mod Take
+pub mod TakeMet
 pub mod Rules
+pub mod Padding

@@ -12,15 +12,28 @@ use Rattle.receiver.specs.declared.Cause.{Cause}
 use Rattle.receiver.specs.declared.Receiver.{Receiver}
 use Rattle.channel.specs.declared.Parameters.{Parameters}
 use Rattle.channel.specs.declared.Channel.{Channel}
+use Rattle.channel.specs.declared.Answer.{Answer as ChannelAnswer}
 use Rattle.channel.specs.declared.Answer.the-variants.{Good, Done, Disconnected, Malformed, BlockSize, NotDue, Busy, BadLength, ShortBuffer, OtherLength, UsedUp, Broken, NoChange}
 use Rattle.channel.specs.Opened.{elapsed, due, sent}
 use Rattle.arrival.specs.Arrived.{arrived}
 use Rattle.open_end.specs.declared.answers.Answer.{Answer}
-use Rattle.open_end.specs.declared.answers.Answer.the-variants.{Channel as ByChannel, OtherId, OutOfRange, Refused}
+use Rattle.open_end.specs.declared.answers.Answer.the-variants.{Channel as ByChannel, OtherId, OutOfRange, Refused, Ended}
+use Rattle.open_end.specs.declared.answers.Told.{Told}
+use Rattle.open_end.specs.declared.Frame.{Frame}
 use Rattle.open_end.specs.declared.OpenEnd.{OpenEnd}
 use Rattle.open_end.specs.declared.Course.the-variants.{GoesOn, GivenUp, Leaves}
 use Rattle.open_end.specs.Answers.{said, told}
 use Rattle.open_end.specs.OpenEnd.{unopened, freshEnd, courseOf, arrivedAt, bufferedAt, elapsedAt, frameOn, dueAt, sentAt, takenAt}
+
+-- ---- literals
+
+-- an answer of an open channel: its number, and that no message in sending is done
+abbrev pub plainly : ChannelAnswer → ℕ → Told
+plainly a n = record { answer = ByChannel a; said = record { number = n; done = false; opcode = 0 } }
+
+-- no frame: ID 0 and no bytes
+abbrev pub noFrame : Frame
+noFrame = record { id = 0; payload = record { len = 0; bytes = 0 ∷ 0 ∷ 0 ∷ 0 ∷ 0 ∷ 0 ∷ 0 ∷ 0 ∷ [] } }
 
 -- ---- the numbers
 
@@ -44,6 +57,8 @@ pub record Says : Type 0 where
   -- "D6, D7 or D8, with that opcode"
   pub refused : (opcode : ℕ) → said (Refused opcode) ≡ record { number = 11; done = false; opcode = opcode }
   pub no-change : said (ByChannel NoChange) ≡ record { number = 12; done = false; opcode = 0 }
+  -- "A C0 or A0 that ends a message in sending is answered 8" (02, 5)
+  pub ended : said Ended ≡ record { number = 8; done = false; opcode = 0 }
 
 pub says : Says
 says =
@@ -64,6 +79,7 @@ says =
       out-of-range = refl;
       refused = λ opcode. refl;
       no-change = refl;
+      ended = refl;
     }
 
 -- a call tells its answer, and what that says

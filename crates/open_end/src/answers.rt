@@ -12,6 +12,8 @@ pub enum Answer {
     OutOfRange,
     // The reply's opcode, D6, D7 or D8.
     Refused(u8),
+    // On the car's side: a C0 or an A0 ended a message in sending.
+    Ended,
 }
 
 // What an answer says: its number in the protocol's table, whether the message in sending is done, and the opcode of a
@@ -59,6 +61,7 @@ pub fn say(answer: Answer) -> Said
             done: false,
             opcode,
         },
+        Answer::Ended => plain(8),
     }
 }
 

@@ -34,7 +34,8 @@ use Rattle.connection.specs.declared.attempt.Attempt.{Attempt}
 use Rattle.connection.specs.declared.Connection.{Connection}
 use Rattle.connection.specs.declared.Answered.{Answered}
 use Rattle.connection.specs.declared.Arrived.{Arrived}
-use Rattle.connection.specs.Record.{noAttempt, closedRecord, leavingOn, agreed, hears}
+use Rattle.settings.specs.Agreed.{agreed}
+use Rattle.connection.specs.Record.{noAttempt, closedRecord, leavingOn, hears}
 use Rattle.connection.specs.Calls.{opening, onReply, onAccept, onAgreeing, settled, onOpen, arrived, attemptElapsed, openElapsed, elapsed, closedDue, requestDue, openDue, dueOf, openSent, sentBy, openTaken, takenBy, closed}
 use Rattle.connection.proofs.Waiting.{asking}
 use Rattle.reachable.specs.Reachable.{Call, opens, comes, passes, asks, sends, takes, closes, OfBytes, AllOfBytes, Tally, tallied, Reached, next, run, Agreed, Ours, Few}

@@ -3,11 +3,13 @@ ghost use mathlib.Core.Path.{_≡_};
 ghost use Rattle.settings.specs.Settings.{defaults, allowed};
 use telegram::kinds::bad_block;
 
+pub mod agreed;
+
 // The settings, by the standard's names. T1 and T3 are time codes; T_E, T_WAIT and T_CT are tenths of a millisecond.
 pub struct Settings {
     // Our own receive ID.
     pub receive: u16,
-    // The unit to talk to.
+    // The unit's address.
     pub unit: u8,
     // The block size that we offer.
     pub block: u8,

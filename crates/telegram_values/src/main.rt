@@ -136,13 +136,6 @@ fn declared(text: &mut [u8], at: usize, m: Message) -> usize {
     writing::flags(text, at, (m.flags % 16) as u8)
 }
 
-fn flag(text: &mut [u8], at: usize, set: bool, name: &[u8]) -> usize {
-    if set {
-        return writing::bytes(text, at, name);
-    }
-    at
-}
-
 fn byte(text: &mut [u8], at: usize, b: u8) -> usize {
     let at = writing::byte(text, at, b' ');
     writing::pair(text, at, b)
@@ -156,7 +149,7 @@ fn id(text: &mut [u8], at: usize, i: u16) -> usize {
 fn sorted(text: &mut [u8], at: usize, t: Sorted) -> usize {
     let k = t.kind;
     let at = kind(text, at, k);
-    flag(text, at, t.padded, b", padded")
+    writing::bytes_if(text, at, t.padded, b", padded")
 }
 
 fn kind(text: &mut [u8], at: usize, k: Telegram) -> usize {
@@ -168,14 +161,14 @@ fn kind(text: &mut [u8], at: usize, k: Telegram) -> usize {
         } => {
             let at = writing::bytes(text, at, b" data, number");
             let at = number(text, at, n as u64);
-            let at = flag(text, at, asks, b", asks for an Ack");
-            flag(text, at, last, b", last")
+            let at = writing::bytes_if(text, at, asks, b", asks for an Ack");
+            writing::bytes_if(text, at, last, b", last")
         }
         Telegram::Ack { ready, number: n } => {
             let at = writing::bytes(text, at, b" Ack, number");
             let at = number(text, at, n as u64);
-            let at = flag(text, at, ready, b", ready");
-            flag(text, at, !ready, b", not ready")
+            let at = writing::bytes_if(text, at, ready, b", ready");
+            writing::bytes_if(text, at, !ready, b", not ready")
         }
         Telegram::Test => writing::bytes(text, at, b" test"),
         Telegram::Break => writing::bytes(text, at, b" break"),

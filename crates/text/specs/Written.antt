@@ -1,5 +1,6 @@
 -- What is written into a lent text from a place on.
 use Prim.Native.Nat.{ℕ, zero, suc, _+_, _-_, _/_, _%_, min}
+use mathlib.Core.Bool.{Bool}
 use mathlib.Core.List.{List, [], _∷_, _++_}
 use mathlib.Core.Path.{_≡_}
 use lib.Dec.{eqb, ltb}
@@ -15,6 +16,10 @@ placeAfter room at n = at + min n (room - at)
 pub record Writes (b : List ℕ) (at : ℕ) (s : List ℕ) (after : List ℕ) (next : ℕ) : Type 0 where
   pub text : after ≡ sets b at s
   pub place : next ≡ placeAfter (length b) at (length s)
+
+-- a text, where it is given
+abbrev pub ifGiven : Bool → List ℕ → List ℕ
+ifGiven given s = if given then s else []
 
 -- the hexadecimal digit of a number below 16, in upper case
 abbrev pub glyph : ℕ → ℕ

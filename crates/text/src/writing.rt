@@ -4,7 +4,7 @@ ghost use mathlib.Core.List.{[], _∷_};
 ghost use mathlib.Core.Path.{_≡_};
 ghost use lib.ListN.{take};
 ghost use Rattle.io.specs.Counts.{Counts};
-ghost use Rattle.text.specs.Written.{Writes, glyph, pairOf, pairsOf, idOf, flagsOf, decimalOf};
+ghost use Rattle.text.specs.Written.{Writes, ifGiven, glyph, pairOf, pairsOf, idOf, flagsOf, decimalOf};
 
 // One character.
 pub fn byte(text: &mut [u8], at: usize, b: u8) -> usize
@@ -28,6 +28,16 @@ pub fn bytes(text: &mut [u8], at: usize, s: &[u8]) -> usize
         i += 1;
     }
     next
+}
+
+// Characters, where they are given.
+pub fn bytes_if(text: &mut [u8], at: usize, given: bool, s: &[u8]) -> usize
+    ensures { λ r. ⌜ Writes (now (text .entry)) at (ifGiven given (now (s .entry))) (now (text .exit)) r ⌝ }
+{
+    if given {
+        return bytes(text, at, s);
+    }
+    at
 }
 
 // A hexadecimal digit, in upper case: that of a number's last four bits.

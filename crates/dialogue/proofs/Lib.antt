@@ -1,0 +1,6 @@
+pub mod LineEnds
+pub mod Handed
+pub mod Letters
+pub mod Names
+pub mod Counting
+pub mod Sentences

@@ -1,0 +1,52 @@
+-- Texts of three parts, and texts that are said.
+use Prim.Native.Nat.{ℕ, _-_, _≤_, _<_}
+use native.Mathlib.Nat.{le-refl}
+use native.Mathlib.Omega.{arith}
+use mathlib.Core.List.{List, [], _∷_, _++_, append-nil}
+use mathlib.Core.Path.{_≡_, refl, sym, _∙_}
+use lib.Dec.{leb}
+use lib.ListN.{length, take, drop, getD, replicate}
+use lib.Seq.{take-all, drop-length}
+use borrow.Author.Tests.{leb-true, leb-false}
+use Rattle.laws.proofs.Cases.{either}
+use Rattle.text.specs.Written.{Writes, pairOf, pairsOf, idOf}
+use Rattle.text.proofs.Written.{then, worded, keeps-length}
+use Rattle.open_end.specs.declared.Frame.{Frame}
+use Rattle.dialogue.specs.declared.session.Session.{Session}
+use Rattle.dialogue.specs.Answers.{frameText, contentsOf}
+use Rattle.dialogue.specs.Session.{Says, Answers}
+
+pub joined3 : (b : List ℕ) (at : ℕ) (s t u v b₁ b₂ b₃ : List ℕ) (n₁ n₂ n₃ : ℕ)
+    → Writes b at s b₁ n₁ → Writes b₁ n₁ t b₂ n₂ → Writes b₂ n₂ u b₃ n₃ → s ++ t ++ u ≡ v → Writes b at v b₃ n₃
+joined3 b at s t u v b₁ b₂ b₃ n₁ n₂ n₃ p q r e = worded b at (s ++ t ++ u) v b₃ n₃ (then (then p q) r) e
+
+-- a frame's ID and bytes, behind a blank
+pub frame-is : (f : Frame) (p : List ℕ) → p ≡ take (f .payload .len) (f .payload .bytes) → (32 ∷ []) ++ idOf (f .id) ++ pairsOf p ≡ frameText f
+unfolding frameText
+frame-is f p e = rw e
+
+pub no-contents : (s : List ℕ) → length s ≡ 0 → 10 ∷ [] ≡ contentsOf s
+unfolding contentsOf
+no-contents [] h = refl
+no-contents (a ∷ s) h = absurd (omega arith)
+
+pub some-contents : (s : List ℕ) → (length s ≡ 0 → ⊥) → pairOf (getD s 0 0) ++ pairsOf (take (length s - 1) (drop 1 s)) ++ 10 ∷ [] ≡ contentsOf s
+unfolding contentsOf
+some-contents [] h = absurd (h refl)
+some-contents (a ∷ s) h = let e : length (a ∷ s) - 1 ≡ length s = omega arith in rw (e, take-all (length s) s (le-refl (length s)))
+
+-- a buffer that was filled to its end
+pub filled : (d : List ℕ) (n : ℕ) → n ≡ length d → replicate n 0 ++ drop n d ≡ replicate (length d) 0
+filled d n e = rw (e, drop-length d, append-nil)
+
+-- what stands up to the place behind a line is what is left of it
+stands : (b line after : List ℕ) (n : ℕ) → Writes b 0 line after n → take n after ≡ take (length line) after
+stands b line after n w =
+    let l : length after ≡ length b = keeps-length b 0 line after n w in
+    either (leb (length line) (length b))
+    (λ e. let h : length line ≤ length b = leb-true _ _ e in let k : n ≡ length line = omega (arith, w .place) in rw k)
+    (λ e. let h : length b < length line = leb-false _ _ e in
+    take-all n after (omega (arith, w .place)) ∙ sym (take-all (length line) after (omega arith)))
+
+pub answered : (s r : Session) (line b after said : List ℕ) (n : ℕ) → Writes b 0 line after n → said ≡ take n after → Says s said r → Answers s line b after r
+answered s r line b after said n w e h = record { text = w .text; says = rw (e, stands b line after n w) at h }

@@ -1,0 +1,10 @@
+pub mod Open
+pub mod Tables
+pub mod Words
+pub mod Same
+pub mod Tests
+pub mod Bytes
+pub mod Ends
+pub mod Arrival
+pub mod Calls
+pub mod Rows

@@ -1,0 +1,5 @@
+pub mod Rules
+pub mod Requests
+pub mod Setups
+pub mod Open
+pub mod Padding

@@ -1,0 +1,3 @@
+pub mod Ends
+pub mod Lawful
+pub mod Demand3

@@ -1,0 +1,12 @@
+pub mod Asking
+pub mod Answering
+pub mod Terms
+pub mod Stages
+pub mod Later
+pub mod Steps
+pub mod Runs
+pub mod Agrees
+pub mod Fresh
+pub mod Moments
+pub mod Opening
+pub mod NotEmpty

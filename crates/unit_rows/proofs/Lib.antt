@@ -1,0 +1,5 @@
+pub mod Ways
+pub mod Arrival
+pub mod Calls
+pub mod Rows
+pub mod UnitRows
