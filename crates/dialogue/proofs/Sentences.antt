@@ -1,4 +1,4 @@
--- Texts of three parts, and texts that are said.
+-- Texts that are said.
 use Prim.Native.Nat.{ℕ, _-_, _≤_, _<_}
 use native.Mathlib.Nat.{le-refl}
 use native.Mathlib.Omega.{arith}
@@ -10,15 +10,11 @@ use lib.Seq.{take-all, drop-length}
 use borrow.Author.Tests.{leb-true, leb-false}
 use Rattle.laws.proofs.Cases.{either}
 use Rattle.text.specs.Written.{Writes, pairOf, pairsOf, idOf}
-use Rattle.text.proofs.Written.{then, worded, keeps-length}
+use Rattle.text.proofs.Written.{keeps-length}
 use Rattle.open_end.specs.declared.Frame.{Frame}
 use Rattle.dialogue.specs.declared.session.Session.{Session}
 use Rattle.dialogue.specs.Answers.{frameText, contentsOf}
 use Rattle.dialogue.specs.Session.{Says, Answers}
-
-pub joined3 : (b : List ℕ) (at : ℕ) (s t u v b₁ b₂ b₃ : List ℕ) (n₁ n₂ n₃ : ℕ)
-    → Writes b at s b₁ n₁ → Writes b₁ n₁ t b₂ n₂ → Writes b₂ n₂ u b₃ n₃ → s ++ t ++ u ≡ v → Writes b at v b₃ n₃
-joined3 b at s t u v b₁ b₂ b₃ n₁ n₂ n₃ p q r e = worded b at (s ++ t ++ u) v b₃ n₃ (then (then p q) r) e
 
 -- a frame's ID and bytes, behind a blank
 pub frame-is : (f : Frame) (p : List ℕ) → p ≡ take (f .payload .len) (f .payload .bytes) → (32 ∷ []) ++ idOf (f .id) ++ pairsOf p ≡ frameText f

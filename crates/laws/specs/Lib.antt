@@ -1,1 +1,2 @@
 pub mod If
+pub mod Characters

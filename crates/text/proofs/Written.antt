@@ -1,5 +1,6 @@
 -- What is written piece by piece is written as a whole.
 --     none, past, then     no characters, no room, and one text behind another
+--     joined, joined3, joined4     texts behind each other, by another name
 --     more                 one element more of a list that is written piece by piece
 --     worded, worded-one   a text or a character, by another name
 use Prim.Native.Nat.{ℕ, zero, suc, _+_, _-_, _*_, _/_, _%_, _^_, _≤_, _<_, min}
@@ -47,6 +48,14 @@ then {b} {at} {s} {t} {b′} {b″} {n} {m} p q = record {
 
 pub joined : (b : List ℕ) (at : ℕ) (s t u b′ b″ : List ℕ) (n m : ℕ) → Writes b at s b′ n → Writes b′ n t b″ m → s ++ t ≡ u → Writes b at u b″ m
 joined b at s t u b′ b″ n m p q e = rw e at (then p q)
+
+pub joined3 : (b : List ℕ) (at : ℕ) (s t u v b₁ b₂ b₃ : List ℕ) (n₁ n₂ n₃ : ℕ)
+    → Writes b at s b₁ n₁ → Writes b₁ n₁ t b₂ n₂ → Writes b₂ n₂ u b₃ n₃ → s ++ t ++ u ≡ v → Writes b at v b₃ n₃
+joined3 b at s t u v b₁ b₂ b₃ n₁ n₂ n₃ p q r e = rw e at (then (then p q) r)
+
+pub joined4 : (b : List ℕ) (at : ℕ) (s t u v w b₁ b₂ b₃ b₄ : List ℕ) (n₁ n₂ n₃ n₄ : ℕ)
+    → Writes b at s b₁ n₁ → Writes b₁ n₁ t b₂ n₂ → Writes b₂ n₂ u b₃ n₃ → Writes b₃ n₃ v b₄ n₄ → s ++ t ++ u ++ v ≡ w → Writes b at w b₄ n₄
+joined4 b at s t u v w b₁ b₂ b₃ b₄ n₁ n₂ n₃ n₄ p q r o e = rw e at (then (then (then p q) r) o)
 
 pub more : (s : List ℕ) (i : ℕ) → i < length s → take (i + 1) s ≡ take i s ++ (getD s i 0 ∷ [])
 more s i h = rw (add-one, take-suc s i 0)

@@ -1,5 +1,5 @@
-use Rattle.text.proofs.Written.{worded}
-use Rattle.dialogue.proofs.Sentences.{some-contents, joined3, no-contents}
+use Rattle.text.proofs.Written.{worded, joined3}
+use Rattle.dialogue.proofs.Sentences.{some-contents, no-contents}
 use borrow.Author.Needs.{needs}
 use Rattle.dialogue.proofs.answers.contents.Statement.{statement}
 use Rattle.dialogue.proofs.answers.contents.Tie as tie

@@ -1,4 +1,4 @@
-use Rattle.dialogue.proofs.Sentences.{joined3}
+use Rattle.text.proofs.Written.{joined3}
 use borrow.Author.Needs.{needs}
 use Rattle.dialogue.proofs.answers.error.Statement.{statement}
 use Rattle.dialogue.proofs.answers.error.Tie as tie

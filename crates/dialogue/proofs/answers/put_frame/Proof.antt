@@ -1,4 +1,5 @@
-use Rattle.dialogue.proofs.Sentences.{joined3, frame-is}
+use Rattle.text.proofs.Written.{joined3}
+use Rattle.dialogue.proofs.Sentences.{frame-is}
 use borrow.Author.Needs.{needs}
 use Rattle.dialogue.proofs.answers.put_frame.Statement.{statement}
 use Rattle.dialogue.proofs.answers.put_frame.Tie as tie

@@ -1,5 +1,5 @@
 use Rattle.dialogue.specs.Answers.{carriedOf}
-use Rattle.dialogue.proofs.Sentences.{joined3}
+use Rattle.text.proofs.Written.{joined3}
 use borrow.Author.Needs.{needs}
 use Rattle.dialogue.proofs.answers.with_carried.Statement.{statement}
 use Rattle.dialogue.proofs.answers.with_carried.Tie as tie

@@ -1,0 +1,9 @@
+pub mod Characters
+pub mod Cut
+pub mod Lines
+pub mod Worked
+pub mod Starts
+pub mod Calls
+pub mod Keeping
+pub mod Turns
+pub mod Rests

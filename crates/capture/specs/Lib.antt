@@ -1,0 +1,5 @@
+pub mod Reading
+pub mod Log
+pub mod Cutting
+pub mod Lines
+pub mod Inside

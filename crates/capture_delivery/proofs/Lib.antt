@@ -1,0 +1,11 @@
+pub mod Cuttings
+pub mod Standing
+pub mod Turns
+pub mod Told
+pub mod Stands
+pub mod Carried
+pub mod Opening
+pub mod Sent
+pub mod Log
+pub mod ShowsWhatWasSent
+pub mod Example

@@ -1,0 +1,4 @@
+pub mod Sent
+pub mod Lines
+pub mod Channel
+pub mod Claim
