@@ -1,7 +1,7 @@
-"""The places of the rules that the logs of tests/read-captures must have reached, by what captures.py notes, and the words
-that the program must have been given."""
+"""The places of the rules that the logs of tests/read-captures and tests/index-captures must have reached, by what captures.py
+notes, and the words that the program must have been given."""
 
-from captures import BREAKS, CAUSES, FRAME, PASSED
+from captures import BREAKS, CAUSES, CLASSES, FRAME, OTHER, PASSED
 from logs import FORMS
 
 LINES = ["%s, %s" % (verdict, end) for verdict in (FRAME, PASSED, BREAKS) for end in ("LF", "CR LF", "the log's end")]
@@ -53,5 +53,19 @@ WORDS = ["--room 0", "--room the length shown", "--room one less", "--room the l
          "a file", "standard input, a file", "standard input, a pipe"]
 
 
-def missing(tally):
-    return [name for name in PLACES + WORDS if not tally[name]]
+# Of index, beside the above: each class on either ID, what is near another class, and how many messages are shown beside the list's
+# places. The A1 that opens, the A8 of either side and a first line that a break moved are among the above.
+INDEX = [
+    *("%s, of the %s" % (kind, sender) for kind in CLASSES if kind != OTHER for sender in ("tester", "unit")),
+    "thrown away after a 7", "thrown away after a broken one", "out of place, while others are thrown away",
+    "open, A1, block size 0 or over 15",
+    *("list: no places, %s shown" % shown for shown in ("none", "one more", "some more")),
+    *("list: some places, %s shown" % shown for shown in ("none", "fewer", "as many", "one more", "some more")),
+]
+
+INDEX_WORDS = ["--places %s" % places
+               for places in ("0", "1", "2", "3", "4096", "the number shown", "one less", "one more")]
+
+
+def missing(tally, names=tuple(PLACES + WORDS)):
+    return [name for name in names if not tally[name]]

@@ -395,7 +395,7 @@ class Traffic:
         way = rng.randrange(9)
         if way == 0:
             say(ident, self.padded(b"\xA3"))
-            say(self.other(ident), self.padded(parameters(0xA1)))
+            say(self.other(ident), self.padded(parameters(0xA1, rng.choice((15, 15, 8, 0, 16)))))
         elif way == 1:
             say(ident, parameters(0xA0))
         elif way == 2:

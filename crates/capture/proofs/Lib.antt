@@ -1,5 +1,6 @@
 pub mod Characters
 pub mod Cut
+pub mod Fits
 pub mod Lines
 pub mod Worked
 pub mod Starts

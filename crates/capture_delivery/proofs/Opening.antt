@@ -3,7 +3,7 @@
 use Prim.Native.Nat.{ℕ, _+_}
 use native.Mathlib.Omega.{arith}
 use mathlib.Core.Bool.{Bool}
-use mathlib.Core.List.{List, []}
+use mathlib.Core.List.{List, [], _∷_}
 use mathlib.Core.Logic.{_≢_, _⊎_, inl, inr}
 use mathlib.Core.Path.{_≡_, refl, ap, _∙_, subst}
 use lib.ListN.{length, getD}
@@ -25,6 +25,7 @@ use Rattle.opening.specs.declared.Reply.{Reply}
 use Rattle.opening.specs.declared.Reply.the-variants.{Positive, Refused, Malformed as NoReply}
 use Rattle.follow.specs.declared.Follow.{Follow}
 use Rattle.follow.specs.Following.{unopened, asking, granted, setUp, opened, onReply, onSetup, onAccept, awaited, restarted, opening, heard, testerBuffer, unitBuffer}
+use Rattle.summary.specs.declared.Class.the-variants.{OtherIds as Other}
 use Rattle.capture.specs.declared.Event.the-variants.{Nothing}
 use Rattle.capture.specs.Reading.{State, onFrame}
 use Rattle.capture_delivery.specs.Channel.{Awaits, C0, D0, A0, A1, GoodBlock, NoC0, Unawaited}
@@ -168,7 +169,7 @@ before w lines tester unit = record { lines = lines; kept = []; follow = followO
 
 pub before-heard : (limit : ℕ) (w : Awaits) (lines : ℕ) (tester unit : List ℕ) (id : ℕ) (s : List ℕ)
     → onFrame limit (before w lines tester unit) id s
-    ≡ record { event = Nothing; state = record { lines = lines + 1; kept = []; follow = opening (followOf w) id s; tester = tester; unit = unit } }
+    ≡ record { event = Nothing; classes = Other ∷ []; state = record { lines = lines + 1; kept = []; follow = opening (followOf w) id s; tester = tester; unit = unit } }
 unfolding onFrame heard testerBuffer unitBuffer
 before-heard limit C0 lines tester unit id s = refl
 before-heard limit (D0 u r) lines tester unit id s = refl

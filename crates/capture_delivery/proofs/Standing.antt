@@ -1,6 +1,6 @@
 -- The reading of a log, told from one side of the channel: what a frame on its own ID, on the other one, or on none of them leaves.
 use Prim.Native.Nat.{ℕ, _+_}
-use mathlib.Core.List.{List, []}
+use mathlib.Core.List.{List, [], _∷_}
 use mathlib.Core.Logic.{_≢_}
 use mathlib.Core.Path.{_≡_, refl, sym}
 use lib.ListN.{length}
@@ -11,6 +11,8 @@ use Rattle.follow.specs.declared.Side.the-variants.{Tester, Unit}
 use Rattle.follow.specs.declared.Reception.{Reception}
 use Rattle.follow.specs.declared.Turn.{Turn}
 use Rattle.follow.specs.Following.{turned, bufferAfter, onOpen, heard, testerBuffer, unitBuffer}
+use Rattle.summary.specs.Classes.{classOf}
+use Rattle.summary.specs.declared.Class.the-variants.{OtherIds as Other}
 use Rattle.capture.specs.declared.Event.the-variants.{Nothing}
 use Rattle.capture.specs.Reading.{State, eventOf, onFrame}
 use Rattle.capture_delivery.specs.Channel.{opposite}
@@ -63,20 +65,20 @@ module _ (limit asked own other : ℕ) (v : View) (s : List ℕ) where
   -- a frame of the side
   pub own-heard : (side : Side) → own ≢ other
       → onFrame limit (standing side 4 asked own other v) own s
-      ≡ record { event = eventOf (turn limit side v s .fate); state = standing side (if turn limit side v s .ends then 5 else 4) asked own other (left limit side v s) }
+      ≡ record { event = eventOf (turn limit side v s .fate); classes = classOf (turn limit side v s .fate) ∷ []; state = standing side (if turn limit side v s .ends then 5 else 4) asked own other (left limit side v s) }
   unfolding onFrame heard onOpen testerBuffer unitBuffer
   own-heard Tester d = rw (eq-eqb own own refl)
   own-heard Unit d = rw (ne-eqb own other d, eq-eqb own own refl)
 
   -- a frame on another ID than the two
   pub none-heard : (side : Side) (id : ℕ) → id ≢ own → id ≢ other
-      → onFrame limit (standing side 4 asked own other v) id s ≡ record { event = Nothing; state = standing side 4 asked own other (onward v) }
+      → onFrame limit (standing side 4 asked own other v) id s ≡ record { event = Nothing; classes = Other ∷ []; state = standing side 4 asked own other (onward v) }
   unfolding onFrame heard onOpen testerBuffer unitBuffer
   none-heard Tester id d e = rw (ne-eqb id own d, ne-eqb id other e)
   none-heard Unit id d e = rw (ne-eqb id other e, ne-eqb id own d)
 
   -- a frame when the channel is over
-  pub over-heard : (side : Side) (id : ℕ) → onFrame limit (standing side 5 asked own other v) id s ≡ record { event = Nothing; state = standing side 5 asked own other (onward v) }
+  pub over-heard : (side : Side) (id : ℕ) → onFrame limit (standing side 5 asked own other v) id s ≡ record { event = Nothing; classes = Other ∷ []; state = standing side 5 asked own other (onward v) }
   unfolding onFrame heard testerBuffer unitBuffer
   over-heard Tester id = refl
   over-heard Unit id = refl
@@ -85,6 +87,6 @@ module _ (limit asked own other : ℕ) (v : View) (s : List ℕ) where
 pub other-heard : (limit asked own other : ℕ) (v : View) (s : List ℕ) (side : Side) → own ≢ other
     → (let t = turn limit (opposite side) (round v) s in
     onFrame limit (standing side 4 asked own other v) other s
-    ≡ record { event = eventOf (t .fate); state = standing side (if t .ends then 5 else 4) asked own other (round (left limit (opposite side) (round v) s)) })
+    ≡ record { event = eventOf (t .fate); classes = classOf (t .fate) ∷ []; state = standing side (if t .ends then 5 else 4) asked own other (round (left limit (opposite side) (round v) s)) })
 other-heard limit asked own other v s Tester d = own-heard limit asked other own (round v) s Unit (λ e. d (sym e))
 other-heard limit asked own other v s Unit d = own-heard limit asked other own (round v) s Tester (λ e. d (sym e))

@@ -1,17 +1,18 @@
 -- Two texts, compared from a place on.
 --     goes-on, parts, is-longer, ends     both go on alike, they part, the second ends first, the first ends
-use Prim.Native.Nat.{ℕ, _+_, _%_, _≤_, _<_}
+use Prim.Native.Nat.{ℕ, _+_, _-_, _%_, _≤_, _<_}
 use native.Mathlib.Numerals.{add-one}
 use native.Mathlib.Omega.{arith}
-use mathlib.Core.Bool.{false}
+use mathlib.Core.Bool.{false, not, _&&_}
 use mathlib.Core.List.{List, [], _∷_}
-use mathlib.Core.Path.{_≡_, refl, sym, _∙_}
-use lib.Dec.{leb}
-use lib.ListN.{length, drop, getD, drop-of-length-le}
+use mathlib.Core.Path.{_≡_, refl, sym, ap, _∙_}
+use lib.Dec.{leb, eqb}
+use lib.ListN.{length, take, drop, getD, drop-of-length-le}
 use lib.Seq.{drop-cons}
 use borrow.Author.Tests.{ne-eqb, eq-eqb, leb-true, leb-false}
 use Rattle.laws.proofs.Cases.{either}
-use Rattle.log_tools.specs.Options.{same, isOption}
+use Rattle.log_tools.specs.Options.{same, isOption, wordTaken, heldTaken}
+use Rattle.log_tools.specs.declared.options.Options.{Options}
 
 module _ (s t : List ℕ) (i : ℕ) (e : same s t ≡ same (drop i s) (drop i t)) where
   pub goes-on : i < length s → i < length t → getD s i 0 ≡ getD t i 0 → same s t ≡ same (drop (i + 1) s) (drop (i + 1) t)
@@ -41,3 +42,9 @@ no-option (c ∷ w) h = absurd (omega arith)
 -- flags of four bits are a digit already
 pub remainder-again : (n : ℕ) → n % 16 % 16 ≡ n % 16
 remainder-again n = omega arith
+
+-- a word that a buffer holds whole
+pub held-whole : (o : Options) (place : ℕ) (b w : List ℕ) (n : ℕ) (r : Options)
+    → (leb (length b) n && not (eqb (o .awaits) 0)) ≡ false → r ≡ wordTaken o place w → w ≡ take (n - 0) (drop 0 b) → r ≡ heldTaken o place b n
+unfolding heldTaken
+held-whole o place b w n r e p q = let k : n - 0 ≡ n = omega arith in rw e (p ∙ ap (wordTaken o place) (q ∙ ap (λ (m : ℕ). take m b) k))

@@ -1,2 +1,3 @@
 pub mod Alike
+pub mod Plain
 pub mod Worked

@@ -1,2 +1,3 @@
+pub mod Complaints
 pub mod Lines
 pub mod Options

@@ -14,4 +14,6 @@ end-spec =
     (λ c. search branches)
     (λ c κs. search needs)
     (λ c. search branches)
+    (λ c κs. search needs)
+    (λ c. search branches)
     (λ c. search branches))

@@ -1,0 +1,4 @@
+pub mod Counts
+pub mod Indexing
+pub mod Lists
+pub mod Worked
