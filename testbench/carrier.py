@@ -36,15 +36,22 @@ class Program:
         self.process = subprocess.Popen(command, stdin=subprocess.PIPE, stdout=subprocess.PIPE, text=True)
 
     def call(self, line):
+        return self.calls((line,))[0]
+
+    def calls(self, lines):
+        """Several calls, written at once."""
+        answers = []
         try:
-            self.process.stdin.write(line + "\n")
+            self.process.stdin.write("".join(line + "\n" for line in lines))
             self.process.stdin.flush()
-            answer = self.process.stdout.readline()
         except BrokenPipeError:
-            answer = ""
-        if not re.match(r"\d", answer):
-            raise Failed("%s answers %s to %s" % (self.command[0], answer.rstrip("\n") or "nothing", line))
-        return answer.rstrip("\n")
+            pass
+        for line in lines:
+            answer = self.process.stdout.readline()
+            if not re.match(r"\d", answer):
+                raise Failed("%s answers %s to %s" % (self.command[0], answer.rstrip("\n") or "nothing", line))
+            answers.append(answer.rstrip("\n"))
+        return answers
 
     def end(self):
         try:
@@ -253,13 +260,15 @@ class Exchange:
 # The programs
 
 ROOT = os.path.dirname(os.path.dirname(os.path.abspath(__file__)))
-PROGRAMS = tuple(os.path.join("target", "bin", name) for name in ("console", "unit_console"))
+CONSOLE, UNIT_CONSOLE, TABLE_CONSOLE = (os.path.join("target", "bin", name)
+                                        for name in ("console", "unit_console", "table_console"))
+PROGRAMS = CONSOLE, UNIT_CONSOLE
 
 
-def missing():
+def missing(programs=PROGRAMS):
     """The programs that are not there, by their names."""
-    return [os.path.basename(path) for path in PROGRAMS if not os.access(os.path.join(ROOT, path), os.X_OK)]
+    return [os.path.basename(path) for path in programs if not os.access(os.path.join(ROOT, path), os.X_OK)]
 
 
-def started():
-    return [Program([os.path.join(ROOT, path)]) for path in PROGRAMS]
+def started(programs=PROGRAMS):
+    return [Program([os.path.join(ROOT, path)]) for path in programs]

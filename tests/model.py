@@ -946,8 +946,8 @@ def answers(data, console):
     return [answer for answer in said if answer is not None]
 
 
-def main():
-    console = UnitConsole() if "--unit" in sys.argv[1:] else Console()
+def serve(console):
+    """Answers standard input."""
     for line in sys.stdin.buffer:
         ended = line.endswith(b"\n")
         answer = console.answer(line[:-1] if ended else line, ended)
@@ -957,4 +957,4 @@ def main():
 
 
 if __name__ == "__main__":
-    main()
+    serve(UnitConsole() if "--unit" in sys.argv[1:] else Console())

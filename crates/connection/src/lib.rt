@@ -216,7 +216,7 @@ impl Connection {
     }
 
     // Whether a frame's ID is the one that the record listens on.
-    fn hears(self, id: u16) -> bool
+    pub fn hears(self, id: u16) -> bool
         ensures { λ r. ⌜ r ≡ hears self id ⌝ }
     {
         let phase = self.phase;

@@ -10,12 +10,12 @@ use dialogue::answers::Carried;
 use dialogue::calls::Call;
 use dialogue::calls::read_call;
 use dialogue::lines::read_line;
-use dialogue::numbers;
+use dialogue::numbers::Opening;
+use dialogue::numbers::read_opening;
 use dialogue::session::Session;
 use dialogue::session::clear;
 use dialogue::words::behind_word;
 use open_end::shown;
-use settings::Settings;
 use text::writing;
 
 // What is kept from line to line, beside the buffers that main makes.
@@ -24,13 +24,7 @@ struct Console {
     session: Session,
 }
 
-// A call that a connection alone has.
-enum Own {
-    Wrong,
-    Open(Settings),
-}
-
-// Its name, as the number that the letters make.
+// The name of the call that a connection alone has, as the number that the letters make.
 const OPEN: u64 = 0x6F70656E;
 
 fn main() {
@@ -115,16 +109,16 @@ impl Console {
             Call::Close => self.answered(connection.close(), text),
             Call::Room(room) => self.with(session.lend(room)),
             Call::Buffer => self.with(session.show(shown(buffer, room), text)),
-            Call::Other(name) => self.own(read_own(name, behind_word(shown(text, fill))), text),
+            Call::Other(name) => self.opened(read_own(name, behind_word(shown(text, fill))), text),
         }
     }
 
-    fn own(self, own: Own, text: &mut [u8]) -> Console {
+    fn opened(self, opening: Opening, text: &mut [u8]) -> Console {
         let connection = self.connection;
         let session = self.session;
-        match own {
-            Own::Wrong => self.with(session.wrong(text)),
-            Own::Open(settings) => self.answered(connection.open(settings), text),
+        match opening {
+            Opening::Wrong => self.with(session.wrong(text)),
+            Opening::With(settings) => self.answered(connection.open(settings), text),
         }
     }
 
@@ -216,18 +210,9 @@ fn arrive(
     connection.arrive(id, bytes, &mut buffer[..room])
 }
 
-fn read_own(name: u64, words: &[u8]) -> Own {
+fn read_own(name: u64, words: &[u8]) -> Opening {
     if name != OPEN {
-        return Own::Wrong;
+        return Opening::Wrong;
     }
-    if words.len() == 0 {
-        return Own::Open(Settings::DEFAULT);
-    }
-    let given = numbers::settings(words);
-    let settings = given.settings;
-    let read = given.numbers;
-    if read.are_all(words) {
-        return Own::Open(settings);
-    }
-    Own::Wrong
+    read_opening(words)
 }

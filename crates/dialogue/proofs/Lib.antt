@@ -4,3 +4,4 @@ pub mod Letters
 pub mod Names
 pub mod Counting
 pub mod Sentences
+pub mod Worked

@@ -4,6 +4,7 @@ use mathlib.Core.Bool.{Bool, false}
 use mathlib.Core.List.{List, [], _∷_, _++_}
 use lib.ListN.{take}
 use lib.Dec.{eqb}
+use Rattle.laws.specs.If.{if_then_else_}
 use Rattle.text.specs.Written.{ifGiven, pairOf, pairsOf, idOf, flagsOf, decimalOf}
 use Rattle.open_end.specs.OpenEnd.{noFrame}
 use Rattle.open_end.specs.declared.Frame.{Frame}
@@ -39,13 +40,35 @@ frameText f = 32 ∷ idOf (f .id) ++ pairsOf (take (f .payload .len) (f .payload
 unfoldable pub carriedOf : Carried → List ℕ → List ℕ
 carriedOf c message = flagsOf (c .flags % 16) ++ ifGiven (c .given) (frameText (c .frame)) ++ pairsOf message
 
--- the mark of a padded telegram, and the line's end
-unfoldable pub endOf : Bool → List ℕ
-endOf padded = ifGiven padded paddedWord ++ 10 ∷ []
+-- an answer without the line's end, with a message's bytes
+unfoldable pub toldOf : Carried → List ℕ → List ℕ
+toldOf c message = saidOf (c .said) ++ carriedOf c message ++ ifGiven (c .padded) paddedWord
 
 -- an answer, with a message's bytes
 unfoldable pub answerOf : Carried → List ℕ → List ℕ
-answerOf c message = saidOf (c .said) ++ carriedOf c message ++ endOf (c .padded)
+answerOf c message = toldOf c message ++ 10 ∷ []
+
+-- " at " and a place
+abbrev pub placeText : ℕ → List ℕ
+placeText place = (32 ∷ 97 ∷ 116 ∷ 32 ∷ []) ++ decimalOf place
+
+-- an answer, and the place that gave it
+unfoldable pub answerAt : Carried → (place : ℕ) → List ℕ
+answerAt c place = toldOf c [] ++ placeText place ++ 10 ∷ []
+
+-- what several say, a blank before each
+unfoldable pub saidsOf : List Said → List ℕ
+saidsOf [] = []
+saidsOf (s ∷ more) = (32 ∷ saidOf s) ++ saidsOf more
+
+-- what each says, in one line
+unfoldable pub eachOf : List Said → List ℕ
+eachOf [] = 10 ∷ []
+eachOf (s ∷ more) = saidOf s ++ saidsOf more ++ 10 ∷ []
+
+-- a place, and - for none
+unfoldable pub ownerOf : (named : Bool) → (place : ℕ) → List ℕ
+ownerOf named place = if named then decimalOf place ++ 10 ∷ [] else 45 ∷ 10 ∷ []
 
 -- the answer to a call that no record is asked for
 abbrev pub zeroLine : List ℕ

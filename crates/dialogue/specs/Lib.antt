@@ -2,5 +2,6 @@ pub mod Lines
 pub mod Words
 pub mod Numbers
 pub mod Calls
+pub mod Places
 pub mod Answers
 pub mod Session

@@ -3,15 +3,18 @@ use Prim.Native.Nat.{ℕ, zero, suc}
 use mathlib.Core.Bool.{Bool, true, false}
 use mathlib.Core.List.{List, [], _∷_}
 use lib.ListN.{length, getD}
-use lib.Dec.{leb, ltb}
+use lib.Dec.{leb, ltb, eqb}
 use Rattle.laws.specs.If.{if_then_else_}
 use Rattle.text.specs.Numbers.{numberOf}
 use Rattle.text.specs.Words.{wordFrom}
 use Rattle.text.specs.declared.reading.Number.{Number}
 use Rattle.text.specs.declared.reading.Number.the-variants.{Value, TooLarge, Bad}
+use Rattle.settings.specs.Settings.{defaults}
 use Rattle.settings.specs.declared.Settings.{Settings}
 use Rattle.dialogue.specs.declared.numbers.Numbers.{Numbers}
 use Rattle.dialogue.specs.declared.numbers.Given.{Given}
+use Rattle.dialogue.specs.declared.numbers.Opening.{Opening}
+use Rattle.dialogue.specs.declared.numbers.Opening.the-variants.{Wrong, With}
 use Rattle.dialogue.specs.Words.{wordAt}
 
 -- none read yet
@@ -84,3 +87,7 @@ givenBy s = record {
   settings = outOfRangeIf (afterWords 11 s .beyond) (settingsOf s);
   numbers = afterWords 11 s;
 }
+
+-- the settings of an opening: the defaults where no word is given, and else those that all the words give
+unfoldable pub openingOf : List ℕ → Opening
+openingOf s = if eqb (length s) 0 then With defaults else if areAll (givenBy s .numbers) s then With (givenBy s .settings) else Wrong

@@ -34,13 +34,21 @@ lettersFrom n (c ∷ s) = lettersFrom (256 * n + c) s
 unfoldable pub lettersOf : List ℕ → ℕ
 lettersOf s = if ltb 8 (length s) then 0 else lettersFrom 0 s
 
+-- the only word, and an empty one where there are more
+unfoldable pub onlyWord : List ℕ → List ℕ
+onlyWord s = if isLone s then wordAt s 0 else []
+
 -- a decimal number that is the only word
 unfoldable pub onlyNumber : List ℕ → Number
-onlyNumber s = if isLone s then numberOf 10 (wordAt s 0) else NoNumber
+onlyNumber s = numberOf 10 (onlyWord s)
 
 -- a CAN ID of one to four digits
 unfoldable pub idRead : List ℕ → Number
 idRead s = if ltb 4 (length s) then NoNumber else numberOf 16 s
+
+-- a CAN ID that is the only word
+unfoldable pub onlyId : List ℕ → Number
+onlyId s = idRead (onlyWord s)
 
 -- words that start with a -
 abbrev pub isDash : List ℕ → Bool

@@ -1,7 +1,7 @@
 // Answers as lines.
 ghost use mathlib.Core.Path.{_≡_};
 ghost use Rattle.text.specs.Written.{Writes, ifGiven, pairsOf};
-ghost use Rattle.dialogue.specs.Answers.{marked, handing, showing, saidOf, frameText, carriedOf, endOf, answerOf, errorOf, contentsOf};
+ghost use Rattle.dialogue.specs.Answers.{marked, handing, showing, saidOf, frameText, carriedOf, toldOf, answerOf, placeText, answerAt, eachOf, ownerOf, errorOf, contentsOf};
 use open_end::Frame;
 use open_end::answers::Said;
 use open_end::no_frame;
@@ -63,17 +63,41 @@ impl Carried {
 pub(crate) fn answer(text: &mut [u8], carried: Carried, message: &[u8]) -> usize
     ensures { λ r. ⌜ Writes (now (text .entry)) 0 (answerOf carried (now (message .entry))) (now (text .exit)) r ⌝ }
 {
-    let at = number(text, carried.said);
+    let at = told(text, carried, message);
+    writing::byte(text, at, b'\n')
+}
+
+// An answer, and the place that gave it.
+pub(crate) fn answer_at(text: &mut [u8], carried: Carried, place: u8) -> usize
+    ensures { λ r. ⌜ Writes (now (text .entry)) 0 (answerAt carried place) (now (text .exit)) r ⌝ }
+{
+    let at = told(text, carried, &[]);
+    let at = put_place(text, at, place);
+    writing::byte(text, at, b'\n')
+}
+
+// An answer without the line's end.
+fn told(text: &mut [u8], carried: Carried, message: &[u8]) -> usize
+    ensures { λ r. ⌜ Writes (now (text .entry)) 0 (toldOf carried (now (message .entry))) (now (text .exit)) r ⌝ }
+{
+    let at = number(text, 0, carried.said);
     let at = with_carried(text, at, carried, message);
-    end(text, at, carried.padded)
+    writing::bytes_if(text, at, carried.padded, b" padded")
+}
+
+fn put_place(text: &mut [u8], at: usize, place: u8) -> usize
+    ensures { λ r. ⌜ Writes (now (text .entry)) at (placeText place) (now (text .exit)) r ⌝ }
+{
+    let at = writing::bytes(text, at, b" at ");
+    writing::decimal(text, at, place as u64)
 }
 
 // An answer's number, with 11 the opcode, and whether the message in sending is done.
-fn number(text: &mut [u8], said: Said) -> usize
-    ensures { λ r. ⌜ Writes (now (text .entry)) 0 (saidOf said) (now (text .exit)) r ⌝ }
+fn number(text: &mut [u8], at: usize, said: Said) -> usize
+    ensures { λ r. ⌜ Writes (now (text .entry)) at (saidOf said) (now (text .exit)) r ⌝ }
 {
     let opcode = [said.opcode];
-    let at = writing::decimal(text, 0, said.number as u64);
+    let at = writing::decimal(text, at, said.number as u64);
     let at = pairs_if(text, at, said.number == 11, &opcode);
     writing::bytes_if(text, at, said.done, b" done")
 }
@@ -86,14 +110,6 @@ fn with_carried(text: &mut [u8], at: usize, carried: Carried, message: &[u8]) ->
     let at = writing::flags(text, at, (carried.flags % 16) as u8);
     let at = frame_if(text, at, carried.given, frame);
     writing::pairs(text, at, message)
-}
-
-// The mark of a padded telegram, and the line's end.
-fn end(text: &mut [u8], at: usize, padded: bool) -> usize
-    ensures { λ r. ⌜ Writes (now (text .entry)) at (endOf padded) (now (text .exit)) r ⌝ }
-{
-    let at = writing::bytes_if(text, at, padded, b" padded");
-    writing::byte(text, at, b'\n')
 }
 
 fn pairs_if(text: &mut [u8], at: usize, given: bool, s: &[u8]) -> usize
@@ -123,6 +139,33 @@ fn put_frame(text: &mut [u8], at: usize, frame: Frame) -> usize
     let at = writing::byte(text, at, b' ');
     let at = writing::id(text, at, frame.id);
     writing::pairs(text, at, shown(&bytes, payload.len))
+}
+
+// What each of eight places answers, in one line.
+pub(crate) fn each(text: &mut [u8], said: [Said; 8]) -> usize
+    ensures { λ r. ⌜ Writes (now (text .entry)) 0 (eachOf said) (now (text .exit)) r ⌝ }
+{
+    let first = said[0];
+    let mut at = number(text, 0, first);
+    let mut i = 1;
+    while i < 8 {
+        let next = said[i];
+        at = writing::byte(text, at, b' ');
+        at = number(text, at, next);
+        i += 1;
+    }
+    writing::byte(text, at, b'\n')
+}
+
+// A place, and - for none.
+pub(crate) fn owner(text: &mut [u8], named: bool, place: u8) -> usize
+    ensures { λ r. ⌜ Writes (now (text .entry)) 0 (ownerOf named place) (now (text .exit)) r ⌝ }
+{
+    if named {
+        let at = writing::decimal(text, 0, place as u64);
+        return writing::byte(text, at, b'\n');
+    }
+    writing::bytes(text, 0, b"-\n")
 }
 
 // The answer to a line that is no call.

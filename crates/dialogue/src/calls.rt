@@ -33,7 +33,7 @@ pub enum Call {
 }
 
 // The longest line, without its end.
-const LONGEST: usize = 16000;
+pub(crate) const LONGEST: usize = 16000;
 
 // The most bytes that can be lent.
 const MOST_ROOM: u64 = 4096;

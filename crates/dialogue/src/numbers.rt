@@ -1,6 +1,6 @@
 // Settings as words, one decimal number each. A number too large for its setting is out of range like any other.
 ghost use mathlib.Core.Path.{_≡_};
-ghost use Rattle.dialogue.specs.Numbers.{noNumbers, withNumber, withBeyond, nextNumber, areAll, outOfRangeIf, givenBy};
+ghost use Rattle.dialogue.specs.Numbers.{noNumbers, withNumber, withBeyond, nextNumber, areAll, outOfRangeIf, givenBy, openingOf};
 use settings::Settings;
 use text::reading;
 use text::reading::Number;
@@ -21,6 +21,12 @@ pub struct Numbers {
 pub struct Given {
     pub settings: Settings,
     pub numbers: Numbers,
+}
+
+// The settings that an opening asks for.
+pub enum Opening {
+    Wrong,
+    With(Settings),
 }
 
 impl Numbers {
@@ -127,6 +133,22 @@ pub fn settings(words: &[u8]) -> Given
         settings: out_of_range_if(mnct.beyond, settings),
         numbers: mnct,
     }
+}
+
+// The settings that an opening asks for: the defaults where no word is given, and else those that all the words give.
+pub fn read_opening(words: &[u8]) -> Opening
+    ensures { λ r. ⌜ r ≡ openingOf (now (words .entry)) ⌝ }
+{
+    if words.len() == 0 {
+        return Opening::With(Settings::DEFAULT);
+    }
+    let given = settings(words);
+    let settings = given.settings;
+    let read = given.numbers;
+    if read.are_all(words) {
+        return Opening::With(settings);
+    }
+    Opening::Wrong
 }
 
 // Settings that every record refuses, where a number is too large: a receive ID has eleven bits.

@@ -1,10 +1,11 @@
 // What is kept from line to line, beside the record and the lent buffers.
 ghost use mathlib.Core.Path.{_≡_};
 ghost use lib.ListN.{length, replicate};
-ghost use Rattle.dialogue.specs.Answers.{answerOf, contentsOf, errorOf, zeroLine};
+ghost use Rattle.dialogue.specs.Answers.{answerOf, answerAt, eachOf, ownerOf, contentsOf, errorOf, zeroLine};
 ghost use Rattle.dialogue.specs.Session.{freshSession, renewed, nextLine, turnsLeft, lending, keeping, Says, Answers};
 use crate::answers;
 use crate::answers::Carried;
+use open_end::answers::Said;
 use open_end::shown;
 use text::output::Output;
 
@@ -71,7 +72,7 @@ impl Session {
     {
         self.room = 1024;
         self.length = 0;
-        self.say(b"0\n")
+        self.grant()
     }
 
     // Answers the call that lends so many bytes of the buffer.
@@ -79,6 +80,13 @@ impl Session {
         ensures { λ r. ⌜ Says (lending self room) zeroLine r ⌝ }
     {
         self.room = room;
+        self.grant()
+    }
+
+    // Answers a call that no record is asked for.
+    pub fn grant(self) -> Session
+        ensures { λ r. ⌜ Says self zeroLine r ⌝ }
+    {
         self.say(b"0\n")
     }
 
@@ -87,6 +95,30 @@ impl Session {
         ensures { λ r. ⌜ Answers self (answerOf carried (now (message .entry))) (now (text .entry)) (now (text .exit)) r ⌝ }
     {
         let end = answers::answer(text, carried, message);
+        self.say(shown(text, end))
+    }
+
+    // Answers a call of a table, with the place that it came to.
+    pub fn tell_at(self, carried: Carried, place: u8, text: &mut [u8]) -> Session
+        ensures { λ r. ⌜ Answers self (answerAt carried place) (now (text .entry)) (now (text .exit)) r ⌝ }
+    {
+        let end = answers::answer_at(text, carried, place);
+        self.say(shown(text, end))
+    }
+
+    // Answers a call of every place of a table.
+    pub fn tell_each(self, said: [Said; 8], text: &mut [u8]) -> Session
+        ensures { λ r. ⌜ Answers self (eachOf said) (now (text .entry)) (now (text .exit)) r ⌝ }
+    {
+        let end = answers::each(text, said);
+        self.say(shown(text, end))
+    }
+
+    // Answers the call that asks for an ID's owner.
+    pub fn tell_owner(self, named: bool, place: u8, text: &mut [u8]) -> Session
+        ensures { λ r. ⌜ Answers self (ownerOf named place) (now (text .entry)) (now (text .exit)) r ⌝ }
+    {
+        let end = answers::owner(text, named, place);
         self.say(shown(text, end))
     }
 

@@ -1,7 +1,7 @@
 // What the words of a line say.
 ghost use mathlib.Core.Path.{_≡_};
 ghost use lib.ListN.{length};
-ghost use Rattle.dialogue.specs.Words.{wordAt, behindWord, lettersOf, onlyNumber, idRead, dashRead, octetsRead, octetsInto};
+ghost use Rattle.dialogue.specs.Words.{wordAt, behindWord, lettersOf, onlyWord, onlyNumber, idRead, onlyId, dashRead, octetsRead, octetsInto};
 use text::reading;
 use text::reading::Bytes;
 use text::reading::Number;
@@ -45,15 +45,22 @@ fn wide(b: u8) -> u64
     b as u64
 }
 
+// The only word, and an empty one where there are more.
+fn only_word(words: &[u8]) -> &[u8]
+    ensures { λ r. ⌜ now r ≡ onlyWord (now (words .entry)) ⌝ }
+{
+    let more = behind_word(words);
+    if more.len() == 0 {
+        return word(words);
+    }
+    &words[..0]
+}
+
 // A decimal number that is the only word.
 pub(crate) fn only_number(words: &[u8]) -> Number
     ensures { λ r. ⌜ r ≡ onlyNumber (now (words .entry)) ⌝ }
 {
-    let more = behind_word(words);
-    if more.len() == 0 {
-        return reading::decimal(word(words));
-    }
-    Number::Bad
+    reading::decimal(only_word(words))
 }
 
 // A CAN ID of one to four digits.
@@ -64,6 +71,13 @@ pub(crate) fn can_id(word: &[u8]) -> Number
         return Number::Bad;
     }
     reading::hexadecimal(word)
+}
+
+// A CAN ID that is the only word.
+pub fn only_id(words: &[u8]) -> Number
+    ensures { λ r. ⌜ r ≡ onlyId (now (words .entry)) ⌝ }
+{
+    can_id(only_word(words))
 }
 
 // The bytes that some words give, a lone - being none, written to the start of bytes; the answer is how many.

@@ -17,7 +17,7 @@ use Rattle.channel.specs.declared.Answer.the-variants.{Good, Done, Disconnected
 use Rattle.channel.specs.Opened.{elapsed, due, sent}
 use Rattle.arrival.specs.Arrived.{arrived}
 use Rattle.open_end.specs.declared.answers.Answer.{Answer}
-use Rattle.open_end.specs.declared.answers.Answer.the-variants.{Channel as ByChannel, OtherId, OutOfRange, Refused, Ended}
+use Rattle.open_end.specs.declared.answers.Answer.the-variants.{Channel as ByChannel, OtherId, OutOfRange, Refused, Ended, Full}
 use Rattle.open_end.specs.declared.answers.Told.{Told}
 use Rattle.open_end.specs.declared.Frame.{Frame}
 use Rattle.open_end.specs.declared.OpenEnd.{OpenEnd}
@@ -59,6 +59,8 @@ pub record Says : Type 0 where
   pub no-change : said (ByChannel NoChange) ≡ record { number = 12; done = false; opcode = 0 }
   -- "A C0 or A0 that ends a message in sending is answered 8" (02, 5)
   pub ended : said Ended ≡ record { number = 8; done = false; opcode = 0 }
+  -- "A new answer 13, table full" (02, 7)
+  pub full : said Full ≡ record { number = 13; done = false; opcode = 0 }
 
 pub says : Says
 says =
@@ -80,6 +82,7 @@ says =
       refused = λ opcode. refl;
       no-change = refl;
       ended = refl;
+      full = refl;
     }
 
 -- a call tells its answer, and what that says

@@ -1,11 +1,12 @@
 -- `take` of an end meets its contract: it shows a message as the first part of a lent buffer. That holds at any record of an end, any step with what is told, the message's length and flags and the record after it, and any result with what is told, the flags, the record and the message.
 -- The code is walked in `TakeMet/Walk.antt`; here stands what its two calls leave, and how that is the result. All that the proof knows of `take_step` and of `shown` is that each meets its contract.
 -- The record and a `&[u8]` are Copy: what they own is had again for the calls, and kept for the exit. Of what the step owns, what is told and the record go into the result, beside the slice that `shown` gave.
+-- The `take` of a table names a place too: its proof walks its own code, and cites the parts of this one that are the same.
 --     Taking                           the record, the step and the result, and what `take_step` and `take` promise of them
 --     step-contract, take-contract     the contracts of the two
 --     take-at                          the code of `take`
 --     take-met                         `take` meets its contract where `take_step` meets its own
-mod Walk
+pub mod Walk
 use Prim.Native.Nat.{ℕ, _<_, _^_}
 use mathlib.Core.Path.{_≡_, refl, sym, ap, subst}
 use mathlib.Core.List.{List, [], _∷_}
@@ -92,61 +93,61 @@ pub record Taking : Type 2 where
       → Promise c b (make (in-step t .0, (in-step t .1 .1 .0, (in-step t .1 .1 .1 .0, (m, tt)))))
 
 -- what is unchanged at exit: there is something to bind, and nothing is said of it
-bound : {D : Type 0} (e : Exit D) → e ≡ unchanged → (x : D) → Last e x
+pub bound : {D : Type 0} (e : Exit D) → e ≡ unchanged → (x : D) → Last e x
 bound {D} e p x = subst (λ (f : Exit D). Last f x) (sym p) tt
 
-silent : {D : Type 0} (e : Exit D) → e ≡ unchanged → (x : D) (w : Last e x) → left e x w ≡ ftrue
+pub silent : {D : Type 0} (e : Exit D) → e ≡ unchanged → (x : D) (w : Last e x) → left e x w ≡ ftrue
 silent {D} e p = subst (λ (f : Exit D). (x : D) (w : Last f x) → left f x w ≡ ftrue) (sym p) (λ x w. refl)
 
 -- the buffer's type
-abbrev B : Lft → RattleType
+abbrev pub B : Lft → RattleType
 B κ = ShrSlice (named 0) κ u8
 
 -- what is known of the slice that `shown` returns, of the buffer s
-record Showing (κ : Lft) (s : RefT (List ℕ)) (len : ℕ) : Type 0 where
-  message : RefT (List ℕ)
-  place : message .ptr ≡ s .ptr
-  shown : now message ≡ take len (now s)
-  is : Is (B κ) message (slice-vals message)
+pub record Showing (κ : Lft) (s : RefT (List ℕ)) (len : ℕ) : Type 0 where
+  pub message : RefT (List ℕ)
+  pub place : message .ptr ≡ s .ptr
+  pub shown : now message ≡ take len (now s)
+  pub is : Is (B κ) message (slice-vals message)
 
 module _ (E : Taking) where
   -- the types of the record, of a step and of a result, and the laws of the last two
-  abbrev R : RattleType
+  abbrev pub R : RattleType
   R = row (E .end)
 
-  abbrev S : Declared
+  abbrev pub S : Declared
   S = record { name = E .step-name; args = []; parts = step-fields (E .end); D = E .Step; to = λ d. intos (step-fields (E .end)) (E .in-step d); to-one = E .step-one }
 
-  abbrev S-laws : Laws S
+  abbrev pub S-laws : Laws S
   S-laws = (N′.the-field-laws, (usize-laws, (u16-laws, (E .laws, tt))))
 
-  abbrev T : NamedLft → Declared
+  abbrev pub T : NamedLft → Declared
   T a = record { name = E .taken-name; args = a .mir ∷ []; parts = taken-fields (E .end) a; D = E .Taken; to = λ d. intos (taken-fields (E .end) a) (E .in-taken d); to-one = E .taken-one a }
 
-  abbrev T-laws : (a : NamedLft) → Laws (T a)
+  abbrev pub T-laws : (a : NamedLft) → Laws (T a)
   T-laws a = (N′.the-field-laws, (u16-laws, (E .laws, (shr-slice-laws a u8 tt, tt))))
 
   -- the record is at exit as it was passed
-  still : R .exit yes ≡ unchanged
+  pub still : R .exit yes ≡ unchanged
   still = ap (under (E .end .to)) (E .copy .still yes)
 
   -- the parts of a step, and the machine values of two of them
-  abbrev told : E .Step → Told
+  abbrev pub told : E .Step → Told
   told t = E .in-step t .0
 
-  abbrev len : E .Step → ℕ
+  abbrev pub len : E .Step → ℕ
   len t = E .in-step t .1 .0
 
-  abbrev flags : E .Step → ℕ
+  abbrev pub flags : E .Step → ℕ
   flags t = E .in-step t .1 .1 .0
 
-  abbrev after : E .Step → E .end .D
+  abbrev pub after : E .Step → E .end .D
   after t = E .in-step t .1 .1 .1 .0
 
-  abbrev told-val : E .Step → Val
+  abbrev pub told-val : E .Step → Val
   told-val t = N′.the-field-laws .val (N.the-type .to (told t))
 
-  abbrev after-val : E .Step → Val
+  abbrev pub after-val : E .Step → Val
   after-val t = E .laws .val (E .end .to (after t))
 
   -- the code, where the function of the step has the name #step
@@ -177,21 +178,21 @@ module _ (E : Taking) where
       abbrev pub take-contract : Contract 𝓤
       take-contract = tripleOf 𝓤 H A (take-ended .signature) (closing 𝓤 H A take-ended take-clauses)
 
-      abbrev shown-contract : (Memory → SProp 𝓤) → (Routine → Fun 𝓤) → Contract 𝓤
+      abbrev pub shown-contract : (Memory → SProp 𝓤) → (Routine → Fun 𝓤) → Contract 𝓤
       shown-contract mem run = tripleOf 𝓤 H A shown.signature (shown.spec 𝓤 H A mem run)
 
   -- what is known of the step that `take_step` returns
-  record Stepping (c : E .end .D) (n : ℕ) : Type 0 where
-    step : E .Step
-    is : step ≡ E .takenBy c n
-    are : Are (S .parts) S-laws (E .in-step step)
+  pub record Stepping (c : E .end .D) (n : ℕ) : Type 0 where
+    pub step : E .Step
+    pub is : step ≡ E .takenBy c n
+    pub are : Are (S .parts) S-laws (E .in-step step)
 
   -- vc is the machine value of the record c, and s the lent buffer
   module _ {M : Type 1} (𝓤 : URA M) (H : Heap 𝓤) (A : Atoms 𝓤) (W : Given 𝓤 H A) (mem : Memory → SProp 𝓤) (run : Routine → Fun 𝓤) (κ : Lft) (q : Share) (c : E .end .D) (vc : Val) (s : RefT (List ℕ)) where
-    abbrev n : ℕ
+    abbrev pub n : ℕ
     n = length (now s)
 
-    abbrev v : Val
+    abbrev pub v : Val
     v = sliceVal (s .ptr) n
 
     abbrev at : Vals (take-ended .signature) (κ, tt)
@@ -203,27 +204,27 @@ module _ (E : Taking) where
     abbrev Post : Val → SProp 𝓤
     Post = walkOf 𝓤 H A take-ended stayed (take-clauses 𝓤) .post (((κ, tt), (q, tt), tt, (c, (s, tt)), at), tt)
 
-    abbrev Own-c : Fml
+    abbrev pub Own-c : Fml
     Own-c = R .own c (vc ∷ [])
 
-    abbrev Own-s : Fml
+    abbrev pub Own-s : Fml
     Own-s = B κ .own s (v ∷ [])
 
     -- what a step tells and its record own
-    abbrev Own-parts : Stepping c n → Fml
+    abbrev pub Own-parts : Stepping c n → Fml
     Own-parts x = fsep (N.the-row .own (told (x .step)) (told-val (x .step) ∷ [])) (R .own (after (x .step)) (after-val (x .step) ∷ []))
 
     -- what is kept over each call, and had after it
-    abbrev Keep : SProp 𝓤
+    abbrev pub Keep : SProp 𝓤
     Keep = ⋆ 𝓤 H A ((‵ (flft κ q) ⊛ ‵ ftrue) ∷ ‵ Own-c ∷ ‵ Own-s ∷ [])
 
-    abbrev Mid : Stepping c n → SProp 𝓤
+    abbrev pub Mid : Stepping c n → SProp 𝓤
     Mid x = sep 𝓤 (sem 𝓤 H A (Own-parts x)) Keep
 
-    abbrev Keep-on : Stepping c n → SProp 𝓤
+    abbrev pub Keep-on : Stepping c n → SProp 𝓤
     Keep-on x = ⋆ 𝓤 H A (‵ (Own-parts x) ∷ ‵ Own-c ∷ ‵ Own-s ∷ [])
 
-    abbrev End : (x : Stepping c n) → Showing κ s (len (x .step)) → SProp 𝓤
+    abbrev pub End : (x : Stepping c n) → Showing κ s (len (x .step)) → SProp 𝓤
     End x y = ⋆ 𝓤 H A (‵ (B κ .own (y .message) (slice-vals (y .message))) ∷ (‵ (flft κ q) ⊛ ‵ ftrue) ∷ raw (Keep-on x) ∷ [])
 
     -- ---- the call of `take_step`
@@ -240,7 +241,7 @@ module _ (E : Taking) where
         use1 W (‵ Own-c ⊛ ‵ Own-c) (E .copy .copies M 𝓤 H A W .twice (E .end .to c) (vc ∷ [])) $ split ! $ use1 W (raw (step-contract 𝓤 H A .pre to-step)) (asks-step fits) $ frame ! $
         move ! (2 ∷ 0 ∷ []) $ frame ! $ frame ! $ fsplit ! $ move ! (1 ∷ []) $ drop ! $ done !
 
-    abbrev Stepped : Val → Stepping c n → SProp 𝓤
+    abbrev pub Stepped : Val → Stepping c n → SProp 𝓤
     Stepped u x = guard 𝓤 (u ≡ stepped (told-val (x .step)) (len (x .step)) (flags (x .step)) (after-val (x .step))) (Mid x)
 
     -- what a step owns is what its fields own, and its machine value is made of theirs
@@ -256,17 +257,17 @@ module _ (E : Taking) where
 
     -- ---- the call of `shown`
     module _ (x : Stepping c n) where
-      abbrev l : ℕ
+      abbrev pub l : ℕ
       l = len (x .step)
 
-      abbrev to-shown : shown-contract 𝓤 H A mem run .Ghost
+      abbrev pub to-shown : shown-contract 𝓤 H A mem run .Ghost
       to-shown = (((κ, tt), (q, tt), tt, (s, (l, tt)), (v ∷ [], (vint w64 l ∷ [], tt))), tt)
 
       asks-shown : ent 𝓤 (⋆ 𝓤 H A (‵ Own-s ∷ (‵ (flft κ q) ⊛ ‵ ftrue) ∷ [])) (shown-contract 𝓤 H A mem run .pre to-shown)
       asks-shown =
           qed W (‵ Own-s ∷ (‵ (flft κ q) ⊛ ‵ ftrue) ∷ []) ∵ nothing ! $ owned ! usize (Is usize) (uint-makes 𝓤 H A W w64) l _ (x .are .1 .0) $ fjoin ! $ move ! (1 ∷ 0 ∷ []) $ fjoin ! $ move ! (1 ∷ 0 ∷ []) $ join ! $ frame ! $ done !
 
-      goes-shown : ent 𝓤 (Mid x) (sep 𝓤 (shown-contract 𝓤 H A mem run .pre to-shown) (Keep-on x))
+      pub goes-shown : ent 𝓤 (Mid x) (sep 𝓤 (shown-contract 𝓤 H A mem run .pre to-shown) (Keep-on x))
       goes-shown =
           qed W (‵ (Own-parts x) ∷ (‵ (flft κ q) ⊛ ‵ ftrue) ∷ ‵ Own-c ∷ ‵ Own-s ∷ []) ∵ move ! (3 ∷ []) $ use1 W (‵ Own-s ⊛ ‵ Own-s) (shr-slice-copy 𝓤 H A W (named 0) κ u8 .twice s (v ∷ [])) $ split ! $
           move ! (0 ∷ 3 ∷ []) $ use2 W (raw (shown-contract 𝓤 H A mem run .pre to-shown)) asks-shown $ frame ! $ move ! (1 ∷ 2 ∷ []) $ frame ! $ frame ! $ done !
@@ -274,10 +275,10 @@ module _ (E : Taking) where
       abbrev Said : RefT (List ℕ) → Type 0
       Said m = (m .ptr ≡ s .ptr) × (now m ≡ take l (now s))
 
-      abbrev Shown : Val → Showing κ s l → SProp 𝓤
+      abbrev pub Shown : Val → Showing κ s l → SProp 𝓤
       Shown u y = guard 𝓤 (u ≡ sliceVal (y .message .ptr) (length (now (y .message)))) (End x y)
 
-      leaves-shown : (u : Val) → ent 𝓤 (sep 𝓤 (shown-contract 𝓤 H A mem run .post to-shown u) (Keep-on x)) (H .⇛ (ex 𝓤 (Shown u)))
+      pub leaves-shown : (u : Val) → ent 𝓤 (sep 𝓤 (shown-contract 𝓤 H A mem run .post to-shown u) (Keep-on x)) (H .⇛ (ex 𝓤 (Shown u)))
       leaves-shown u =
           qed W (raw (shown-contract 𝓤 H A mem run .post to-shown u) ∷ raw (Keep-on x) ∷ []) ∵ updating ! $
           use1 W (later (some (λ (m : RefT (List ℕ)). ((‵ (flft κ q) ⊛ ‵ ftrue) ⊛ ‵ (B κ .own m (u ∷ []))) ⊛ raw (ensured 𝓤 H A shown.ended (shown.clauses 𝓤 H A mem run) (κ, tt) (s, (l, tt)) tt m)))) (id⊢ 𝓤 _) $ await ! tt $ pick ! (λ m. split ! $ move ! (1 ∷ []) $
@@ -287,18 +288,18 @@ module _ (E : Taking) where
           rewrite ! 0 (λ (us : List Val). ‵ (B κ .own m us)) vs refl $ at-once ! $ show ! (Shown u) (record { message = m; place = d .0; shown = d .1; is = subst (Is (B κ) m) vs is }) $ check ! (ap only vs) $ done !)))
 
       -- ---- the result, whose lifetime is the buffer's
-      abbrev α : NamedLft
+      abbrev pub α : NamedLft
       α = namedLft 1 0 tt (κ, tt)
 
       module _ (y : Showing κ s l) where
-        abbrev in-result : InTaken (E .end)
+        abbrev pub in-result : InTaken (E .end)
         in-result = (told (x .step), (flags (x .step), (after (x .step), (y .message, tt))))
 
-        abbrev vr : Val
+        abbrev pub vr : Val
         vr = made (told-val (x .step)) (flags (x .step)) (after-val (x .step)) (sliceVal (y .message .ptr) (length (now (y .message))))
 
         -- what a result owns whose fields have the values r
-        abbrev Own-taken : InTaken (E .end) → Fml
+        abbrev pub Own-taken : InTaken (E .end) → Fml
         Own-taken r = Struct (shape (T α)) .own (intos (T α .parts) r) (vr ∷ [])
 
         exits : ent 𝓤 (End x y) (Post vr)
@@ -311,12 +312,12 @@ module _ (E : Taking) where
             owned ! u16 (Is u16) (uint-makes 𝓤 H A W w16) (flags (x .step)) _ (x .are .1 .1 .0) $ fjoin ! $ move ! (1 ∷ 0 ∷ []) $ fjoin ! $
             by ! (subst (λ (r : InTaken (E .end)). ent 𝓤 (sem 𝓤 H A (all-own (T α .parts) (T-laws α) in-result)) (sem 𝓤 H A (Own-taken r))) (sym (E .in-made in-result)) (own-shut 𝓤 H A W (T α) (T-laws α) in-result))
 
-        vr-typed : Typed (layout (shape (T α))) vr
+        pub vr-typed : Typed (layout (shape (T α))) vr
         vr-typed = struct-lawful 𝓤 H A W (shape (T α)) (lawfuls 𝓤 H A W (T α .parts) (T-laws α)) .typed (intos (T α .parts) in-result) _ (valss (fields (T α)) (spells (T α .parts) (T-laws α)) (intos (T α .parts) in-result), (refl, (x .are .0, (x .are .1 .1 .0, (x .are .1 .1 .1 .0, (y .is, tt)))))) .0
 
     -- ---- the walk
     module _ (#step : Name) where
-      abbrev known : Known #step #shown (E .step-name) (E .taken-name) (layout (shape N.the-type)) (layout (shape (E .end)))
+      abbrev pub known : Known #step #shown (E .step-name) (E .taken-name) (layout (shape N.the-type)) (layout (shape (E .end)))
       known = record {
         X = Stepping c n;
         answer = λ x. told-val (x .step);

@@ -1,9 +1,9 @@
--- 01, "Numbers we answer with", and 02, 5, for its row 8: what a call of a record is answered with, at either end.
+-- 01, "Numbers we answer with", 02, 5, for its row 8, and 02, 7, for 13: what a call of a record is answered with, at either end.
 use Prim.Native.Nat.{ℕ}
 use mathlib.Core.Bool.{false}
 use Rattle.channel.specs.Numbers.{said as channelSaid}
 use Rattle.open_end.specs.declared.answers.Answer.{Answer}
-use Rattle.open_end.specs.declared.answers.Answer.the-variants.{Channel, OtherId, OutOfRange, Refused, Ended}
+use Rattle.open_end.specs.declared.answers.Answer.the-variants.{Channel, OtherId, OutOfRange, Refused, Ended, Full}
 use Rattle.open_end.specs.declared.answers.Said.{Said}
 use Rattle.open_end.specs.declared.answers.Told.{Told}
 
@@ -18,6 +18,7 @@ said OtherId = plain 3
 said OutOfRange = plain 10
 said (Refused opcode) = record { number = 11; done = false; opcode = opcode }
 said Ended = plain 8
+said Full = plain 13
 
 -- what a call tells: the answer, and what it says
 abbrev pub told : Answer → Told

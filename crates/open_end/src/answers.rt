@@ -14,6 +14,8 @@ pub enum Answer {
     Refused(u8),
     // On the car's side: a C0 or an A0 ended a message in sending.
     Ended,
+    // Of a table: every place is in use.
+    Full,
 }
 
 // What an answer says: its number in the protocol's table, whether the message in sending is done, and the opcode of a
@@ -62,6 +64,7 @@ pub fn say(answer: Answer) -> Said
             opcode,
         },
         Answer::Ended => plain(8),
+        Answer::Full => plain(13),
     }
 }
 

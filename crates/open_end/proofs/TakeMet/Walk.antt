@@ -36,10 +36,10 @@ made answer flags left message = vstruct (vcons answer (vcons (vint w16 flags) (
 
 -- νS and νT are the symbols of the step and of the result; τA is the type of what is told, τC of the record
 module _ (#step #shown : Name) (νS νT : Sym) (τA τC : Ty) where
-  abbrev τS : Ty
+  abbrev pub τS : Ty
   τS = tyStruct νS (tcons τA (tcons (tyInt w64) (tcons (tyInt w16) (tcons τC tnil))))
 
-  abbrev τT : Ty
+  abbrev pub τT : Ty
   τT = tyStruct νT (tcons τA (tcons (tyInt w16) (tcons τC (tcons (bytes (named 0)) tnil))))
 
   -- _1 is the record and _2 the buffer; _3 is the step, _4 the message and _5 the buffer's length

@@ -1,5 +1,5 @@
+use Rattle.text.proofs.Written.{joined}
 use Rattle.dialogue.specs.Answers.{answerOf}
-use Rattle.text.proofs.Written.{joined3}
 use borrow.Author.Needs.{needs}
 use Rattle.dialogue.proofs.answers.answer.Statement.{statement}
 use Rattle.dialogue.proofs.answers.answer.Tie as tie
@@ -11,6 +11,5 @@ answer-spec =
     (tie.spec
     (λ c κs. search needs)
     (λ c κs. search needs)
-    (λ c κs. search needs)
     (λ c. search needs)
-    (λ c. search joined3))
+    (λ c. search joined))

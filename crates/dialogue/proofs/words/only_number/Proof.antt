@@ -1,6 +1,4 @@
-use Rattle.laws.proofs.Branches.{branches}
 use Rattle.dialogue.specs.Words.{onlyNumber}
-use Rattle.dialogue.proofs.Handed.{lengths}
 use borrow.Author.Needs.{needs}
 use Rattle.dialogue.proofs.words.only_number.Statement.{statement}
 use Rattle.dialogue.proofs.words.only_number.Tie as tie
@@ -12,6 +10,4 @@ only-number-spec =
     (tie.spec
     (λ c κs. search needs)
     (λ c κs. search needs)
-    (λ c κs. search needs)
-    (λ c. rw (c .decimal .ensures, c .before .word .ensures) (search (lengths, branches)))
-    (λ c. search (lengths, branches)))
+    (λ c. rw (c .decimal .ensures, c .before .only-word .ensures)))

@@ -1,0 +1,5 @@
+pub mod Lowest
+pub mod Found
+pub mod Rules
+pub mod Places
+pub mod Worked
