@@ -1,7 +1,7 @@
 #!/usr/bin/env python3
-"""One end of a TP 2.0 connection as a plain executable model: the side that opens it, and the control unit's side; over
-each the line protocol of its console; and the ends that talk to them in the scenarios. Run as a program, it answers
-standard input line by line as the console does, with --unit as the unit's console does.
+"""One end of a connection as a plain executable model: the side that opens it, by TP 2.0 or by a row of TP 1.6, and the control
+unit's side, by TP 2.0; over each the line protocol of its console; and the ends that talk to them in the scenarios. Run as a
+program, it answers standard input line by line as the console does, with --unit as the unit's console does.
 
 A call answers a pair: the number, and what it carries (None, "done", an opcode, a frame, a message with its flags).
 The answer to an arriving frame has a third part: whether it carries the mark of a padded telegram.
@@ -42,6 +42,100 @@ class Settings(NamedTuple):
 # In the order of the settings.
 RANGES = ((0, 0x7FF), (0x00, 0xEF), (1, 15), (0, 255), (0, 255), (1, 10000),
           (0, 255), (0, 255), (1, 65535), (0, 65535), (0, 255))
+
+
+# What differs between the two protocols. A record has one of these classes as its profile.
+
+class TP20:
+    REFUSALS = REFUSALS
+    UNKNOWN = ()            # first bytes that are no telegram, though the other protocol has them
+
+    @staticmethod
+    def good(s):
+        return s.good()
+
+    @staticmethod
+    def interval(s):
+        """Without a frame for so long, a test goes out; 0 means none."""
+        return s.interval
+
+    @staticmethod
+    def replies_from(unit):
+        return SETUP_ID + unit
+
+    @staticmethod
+    def request(s):
+        """The C0."""
+        return SETUP_ID, bytes([s.unit, 0xC0, 0x00, 0x10, s.rx & 0xFF, s.rx >> 8, 0x01])
+
+    @staticmethod
+    def well_formed(data):
+        return len(data) == 7 and data[0] == 0x00
+
+    @staticmethod
+    def named_by(data, s):
+        """Our transmit ID, by a D0; None if it is badly formed."""
+        good = data[2:4] == s.rx.to_bytes(2, "little") and data[5] <= 0x07 and data[6] == 0x01
+        return int.from_bytes(data[4:6], "little") if good else None
+
+
+class TP16:
+    """Channel setup and its answer have three bytes (001, 5.1). The last is the ID without its offset: ours in the C0, the unit's in the
+    D0. Of refusals there is D8 alone, and neither test nor break is in table 9."""
+
+    REFUSALS = 0xD8,
+    UNKNOWN = 0xA3, 0xA4
+
+    @classmethod
+    def default(cls):
+        """By 02; the IDs are the lowest of the row."""
+        return Settings(rx=cls.OFFSET + cls.OURS[0], unit=cls.UNITS[0], t3=0x4A, mntc=20, twait=500)
+
+    @classmethod
+    def good(cls, s):
+        """After 01's ranges those of the row. A tester's T3 is never below 10 ms (001, 5.2.2.3), and where the unit is not ready we
+        wait longer than T3 and less than T1 (5.2.2.2)."""
+        return (s.good() and inside(s.unit, cls.UNITS) and inside(s.rx - cls.OFFSET, cls.OURS)
+                and 100 <= tenths(s.t3) < s.twait < tenths(s.t1))
+
+    @staticmethod
+    def interval(s):
+        return 0
+
+    @classmethod
+    def replies_from(cls, unit):
+        return cls.SETUP + unit
+
+    @classmethod
+    def request(cls, s):
+        return cls.SOURCE, bytes([s.unit, 0xC0, s.rx - cls.OFFSET])
+
+    @staticmethod
+    def well_formed(data):
+        """The tester's own target address is 00 (table 1)."""
+        return len(data) == 3 and data[0] == 0x00
+
+    @classmethod
+    def named_by(cls, data, s):
+        return cls.OFFSET + data[2] if inside(data[2], cls.THEIRS) else None
+
+
+def inside(value, limits):
+    return limits[0] <= value <= limits[1]
+
+
+# The columns of 001's tables. Tables 1 to 3 have one line for infotainment, which is good for both priorities. Tables 4 and 5
+# disagree on infotainment's channels; 5 has the ranges of both sides, so it holds.
+COLUMNS = {
+    "NAME": ("drive", "comfort", "high", "low"),
+    "SOURCE": (0x200, 0x2D0, 0x2D0, 0x2D0),                                     # table 1: default tester source
+    "SETUP": (0x200, 0x2E0, 0x4A0, 0x4A0),                                      # table 2: ECU setup offset
+    "UNITS": ((0x00, 0x1F), (0x00, 0x1F), (0x30, 0x3F), (0x30, 0x3F)),          # table 3: destination range
+    "OFFSET": (0x700, 0x300, 0x400, 0x600),                                     # table 5: ChId offset
+    "OURS": ((0x40, 0xBF), (0x00, 0x1F), (0xE0, 0xEF), (0x90, 0x9F)),           # table 5: ChId range channel setup
+    "THEIRS": ((0x40, 0xBF), (0x20, 0x3F), (0xF0, 0xFF), (0xB0, 0xBF)),         # table 5: ChId range channel acknowledge
+}
+ROWS = {row[0]: type("TP 1.6, " + row[0], (TP16,), dict(zip(COLUMNS, row))) for row in zip(*COLUMNS.values())}
 
 
 # Request 4: the kinds that some units fill up to 8 bytes. Data has its own length there, and A0 is not named.
@@ -252,6 +346,7 @@ class End:
     phases lie between is a side's own."""
 
     KEPT = ()               # what every phase keeps, closed too
+    profile = TP20
 
     def enter(self, phase, **fields):
         """Another phase, with nothing from before but what is named."""
@@ -278,17 +373,20 @@ class End:
                    test_again=False,        # a repeated test is due
                    test_wait=0,
                    unanswered=0,
-                   quiet=s.interval)        # what is left of the test interval
+                   quiet=self.profile.interval(s))      # what is left of the test interval
 
     def parameters(self, opcode):
         """An A0 or A1 of our settings."""
         s = self.settings
         return bytes([opcode, s.block, s.t1, 0xFF, s.t3, 0xFF])
 
+    def sort(self, data):
+        return (None, False) if data and data[0] in self.profile.UNKNOWN else sort(data)
+
     def arrive_own(self, data, buffer):
         """A frame on the own receive ID. Every answer but 1 carries the mark on; padding alters nothing else, since no
         rule looks behind a kind's own bytes."""
-        kind, padded = sort(data)
+        kind, padded = self.sort(data)
         if kind is None:
             return 1, None, False
         if kind == "disconnect":
@@ -302,7 +400,7 @@ class End:
         if answer[0] == 8:
             self.shut()
         elif answer[0] == 0:
-            self.quiet = self.settings.interval
+            self.quiet = self.profile.interval(self.settings)
         return answer
 
     def arrive_kind(self, kind, data, buffer):
@@ -343,7 +441,7 @@ class End:
             return False
         if self.test_out:
             return self.test_again
-        return self.settings.interval != 0 and self.quiet == 0
+        return self.profile.interval(self.settings) != 0 and self.quiet == 0
 
     def due_open(self, message):
         t1 = tenths(self.settings.t1)
@@ -362,7 +460,7 @@ class End:
             data = self.sender.hand_over(message, t1)
         else:
             return 0, None
-        self.quiet = self.settings.interval
+        self.quiet = self.profile.interval(self.settings)
         return 0, (self.tx, data)
 
     def in_sending(self):
@@ -387,18 +485,25 @@ def bad_block(size):
 
 class Connection(End):
     """The record of the side that opens. Its phase is closed, setup (the D0 is awaited), parameters (the A1 is awaited)
-    or open."""
+    or open. An opening brings its profile, which the record has until it is closed."""
+
+    KEPT = "profile",
 
     def __init__(self):
         self.shut()
 
+    def shut(self, left=None):
+        self.profile = TP20
+        super().shut(left)
+
     # The calls
 
-    def open(self, settings):
+    def open(self, settings, profile=TP20):
         if self.phase != "closed":
             return 4, None
-        if not settings.good():
+        if not profile.good(settings):
             return 10, None
+        self.profile = profile
         self.begin("setup", settings=settings)
         return 0, None
 
@@ -411,7 +516,7 @@ class Connection(End):
                    timer=0)
 
     def listens_on(self):
-        return SETUP_ID + self.settings.unit if self.phase == "setup" else self.settings.rx
+        return self.profile.replies_from(self.settings.unit) if self.phase == "setup" else self.settings.rx
 
     def arrive(self, ident, data, buffer):
         """Until the D0 nothing is sorted, so nothing is marked."""
@@ -424,18 +529,17 @@ class Connection(End):
         return self.arrive_own(data, buffer)
 
     def arrive_setup(self, data):
-        own = self.settings.rx.to_bytes(2, "little")
-        if len(data) != 7 or data[0] != 0x00:
+        if not self.profile.well_formed(data):
             return 1, None
-        positive = data[1] == 0xD0 and data[2:4] == own and data[5] <= 0x07 and data[6] == 0x01
-        if not positive and data[1] not in REFUSALS:
+        tx = self.profile.named_by(data, self.settings) if data[1] == 0xD0 else None
+        if tx is None and data[1] not in self.profile.REFUSALS:
             return 1, None
         if not self.asked:
             return 4, None
-        if not positive:
+        if tx is None:
             self.shut()
             return 11, data[1]
-        self.begin("parameters", settings=self.settings, tx=int.from_bytes(data[4:6], "little"))
+        self.begin("parameters", settings=self.settings, tx=tx)
         return 0, None
 
     def arrive_sorted(self, kind, data, buffer):
@@ -479,12 +583,7 @@ class Connection(End):
         if not self.asking:
             return 0, None
         self.asking, self.asked, self.timer = False, True, self.settings.te
-        return 0, self.request() if self.phase == "setup" else (self.tx, self.parameters(0xA0))
-
-    def request(self):
-        """The C0."""
-        s = self.settings
-        return SETUP_ID, bytes([s.unit, 0xC0, 0x00, 0x10, s.rx & 0xFF, s.rx >> 8, 0x01])
+        return 0, self.profile.request(self.settings) if self.phase == "setup" else (self.tx, self.parameters(0xA0))
 
     def close(self):
         if self.phase == "closed":
@@ -654,6 +753,7 @@ class Console:
     """The lines over the side that opens."""
 
     END = Connection
+    ROWS = ROWS
 
     def __init__(self, lines=0):
         self.lines = lines      # read so far
@@ -722,10 +822,18 @@ class Console:
         return spoken(*result)
 
     def own_call(self, name, words):
-        """The call that only this side has."""
+        """The calls that only this side has."""
+        if name == b"open16":
+            return self.open16(*words)
         if name != b"open" or len(words) not in (0, len(RANGES)):
             raise Malformed
         return self.connection.open(Settings(*map(decimal, words)))
+
+    def open16(self, name=b"", *words):
+        row = self.ROWS.get(name.decode("latin-1"))
+        if row is None or len(words) not in (0, len(RANGES)):
+            raise Malformed
+        return self.connection.open(Settings(*map(decimal, words)) if words else row.default(), row)
 
 
 class UnitConsole(Console):
@@ -761,6 +869,8 @@ def spoken(number, value, padded=False):
 
 class Other:
     """The other end, for realistic traffic. `habits` gives each habit its chance (0 if not named)."""
+
+    row = None                  # of TP 1.6; None is TP 2.0
 
     def __init__(self, rng, habits):
         self.rng, self.habits = rng, habits
@@ -798,13 +908,9 @@ class Car(Other):
 
     def hear(self, ident, data):
         """What it sends at once, as IDs and bytes."""
-        if ident == SETUP_ID and len(data) == 7 and data[1] == 0xC0:
-            unit, own = data[0], data[4:6]
-            if self.chance("refuse"):
-                return [(SETUP_ID + unit, bytes([0, self.rng.choice((0xD6, 0xD7, 0xD8)), *own, 0, 0x10, 1]))]
-            self.start()
-            self.rx = own[0] | (own[1] & 7) << 8
-            return [(SETUP_ID + unit, bytes([0, 0xD0, *own, self.tx & 0xFF, self.tx >> 8, 1]))]
+        reply = self.hear_setup(ident, data)
+        if reply:
+            return [reply]
         if self.rx is None or ident != self.tx:
             return []
         kind, _ = sort(data)
@@ -822,6 +928,17 @@ class Car(Other):
         elif kind == "data":
             return self.hear_data(data)
         return []
+
+    def hear_setup(self, ident, data):
+        """Its reply, where the frame is a C0."""
+        if ident != SETUP_ID or len(data) != 7 or data[1] != 0xC0:
+            return None
+        unit, own = data[0], data[4:6]
+        if self.chance("refuse"):
+            return SETUP_ID + unit, bytes([0, self.rng.choice((0xD6, 0xD7, 0xD8)), *own, 0, 0x10, 1])
+        self.start()
+        self.rx = own[0] | (own[1] & 7) << 8
+        return SETUP_ID + unit, bytes([0, 0xD0, *own, self.tx & 0xFF, self.tx >> 8, 1])
 
     def hear_ack(self, first):
         distance = (first - self.number - self.oldest) % 16
@@ -880,6 +997,24 @@ class Car(Other):
             self.next = self.oldest
 
 
+class OldCar(Car):
+    """A unit of a row of TP 1.6. It tests and breaks off too, though these are no telegrams there."""
+
+    def __init__(self, rng, row, *others):
+        super().__init__(rng, *others)
+        self.row = row
+
+    def hear_setup(self, ident, data):
+        if ident != self.row.SOURCE or len(data) != 3 or data[1] != 0xC0:
+            return None
+        there = self.row.SETUP + data[0]
+        if self.chance("refuse"):
+            return there, bytes([0, 0xD8, self.rng.randrange(256)])
+        self.start()
+        self.rx = self.row.OFFSET + data[2]
+        return there, bytes([0, 0xD0, self.tx - self.row.OFFSET])
+
+
 class Tester(Other):
     """A tester: the side that opens, with someone who sends, takes and closes. Its habits: speak, flag, pad, late (with
     taking), break, bye, and again: a second C0 or A0 out of turn."""
@@ -914,7 +1049,7 @@ class Tester(Other):
             if self.chance("break"):
                 return end.tx, self.control(0xA4)
             if self.chance("again"):
-                return self.rng.choice(((end.tx, end.parameters(0xA0)), end.request()))
+                return self.rng.choice(((end.tx, end.parameters(0xA0)), end.profile.request(end.settings)))
             if self.chance("bye"):
                 end.close()
         frame = end.due(self.message)[1]

@@ -6,7 +6,7 @@ import types
 
 import model
 from model import Settings
-from reached import DECLARED, WIDEST, filled, label, name_of, outcome, past_after, picture, timers
+from reached import DECLARED, OLD, WIDEST, filled, label, name_of, outcome, past_after, picture, timers
 
 HUGE = (65535, 65536, 2**31, 2**32 - 1, 2**32, 2**63, model.TIME - 1, model.TIME, model.TIME, model.TIME)
 LENGTHS = (1, 1, 2, 4, 5, 6, 11, 12, 13, 26, 100, 102, 103, 104, 105, 110, 208, 209)
@@ -169,6 +169,9 @@ class Play:
 
     # Settings
 
+    def choose(self):
+        """By which protocol to open, where a side has two."""
+
     def settings(self, **fixed):
         pick, some = self.rng.choice, self.rng.randrange
         t1 = pick((0x8A, 0x8A, 0x01, 0x41, 0x7F, 0xC1, 0xFF, some(256)))
@@ -306,6 +309,7 @@ class Play:
             self.say(rng.choice(("time 0", "time 00", "time 007", "  time 1", "time  2  ", "room 1024", "room 01024",
                                  "due ", " due", "  due  - ", "buffer ", "take ")))
         elif way < 0.35:
+            self.choose()
             self.settle(self.odd_settings())
         elif way < 0.45:
             self.say(bytes(rng.choice((*range(0x21, 0x7F), *range(0xA1, 0x100))) for _ in range(rng.randrange(8, 30)))
@@ -432,7 +436,7 @@ class Play:
             assert other.heard == accepted[:len(other.heard)] and taken[:len(other.sent)] == other.sent[:len(taken)]
             assert len(taken) >= len(other.sent) - 1
             for name, carried in zip(self.ENDS, (taken, other.heard)):
-                self.tally["carried to the " + name] += len(carried)
+                self.tally[(OLD if other.row else "") + "carried to the " + name] += len(carried)
 
     def finish(self):
         if self.rng.random() < 0.3:
@@ -577,6 +581,12 @@ def every_flags(play):
             play.heard(0xA4, *play.filling(7 * (flags % 2)))
             play.say("take")
             play.due()
+        play.first(0x20, 0, flags)              # broken, and still thrown away where a break leads back to
+        play.later(0x00, 1)
+        play.later(0x20, 1)
+        play.heard(0xA4, *play.filling(7 * (flags % 2)))
+        play.later(0x10, 1)
+        play.due()
 
 
 def after_data(play):
@@ -742,6 +752,7 @@ def malformed_lines(play, rng, steps):
 
 def settings(play, rng, steps):
     for _ in range(steps // 4):
+        play.choose()
         if play.settle(play.odd_settings()) == "0" and rng.random() < 0.3:
             play.due()
         play.say("close")

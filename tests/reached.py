@@ -35,12 +35,30 @@ DECLARED = {0: 9, 1: 0, model.LONGEST: 0, model.LONGEST + 1: 9, 4095: 9}
 WIDEST = (65535, 255, 255, 255, 255, 65535, 255, 255, 65535, 65535, 255)
 
 
+# The rows of TP 1.6 as CAN IDs, which tables 2 and 5 of 001 have as sums: where a unit replies from, our receive ID, the transmit ID
+# that a reply names. Written out here, so that the model's sums are held to them.
+LIMITS = {
+    "drive": {"unit": (0x00, 0x1F), "from": (0x200, 0x21F), "rx": (0x740, 0x7BF), "tx": (0x740, 0x7BF)},
+    "comfort": {"unit": (0x00, 0x1F), "from": (0x2E0, 0x2FF), "rx": (0x300, 0x31F), "tx": (0x320, 0x33F)},
+    "high": {"unit": (0x30, 0x3F), "from": (0x4D0, 0x4DF), "rx": (0x4E0, 0x4EF), "tx": (0x4F0, 0x4FF)},
+    "low": {"unit": (0x30, 0x3F), "from": (0x4D0, 0x4DF), "rx": (0x690, 0x69F), "tx": (0x6B0, 0x6BF)},
+}
+SETUPS = 0x200, 0x2D0, 0x2E0, 0x4A0
+OLD = "1.6 "                # before a place that a connection by TP 1.6 is at
+
+
 def near(value, limit):
     return {limit - 1: "one less", limit: "equal", limit + 1: "one more"}.get(value)
 
 
 def place_of(console, line, past):
-    """The places at a limit or in a rule that this line is at, before it is answered."""
+    """The places at a limit or in a rule that this line is at, before it is answered; those of TP 1.6 are told apart."""
+    before = "" if console.connection.profile is model.TP20 else OLD
+    for place in place_of_line(console, line, past):
+        yield before + place
+
+
+def place_of_line(console, line, past):
     words = [word for word in line.split(b" ") if word]
     c = console.connection
     if c.phase == "closed" and c.left is not None:
@@ -48,6 +66,10 @@ def place_of(console, line, past):
     try:
         if words[0] == b"open" and len(words) == 12:
             yield from place_of_settings(c, "open", Settings(*map(model.decimal, words[1:])))
+        elif words[0] == b"open16" and len(words) == 2 and words[1].decode("latin-1") in LIMITS:
+            yield "open16 %s, %s" % (words[1].decode(), c.phase)
+        elif words[0] == b"open16" and len(words) == 13 and words[1].decode("latin-1") in LIMITS:
+            yield from place_of_old(c, words[1].decode(), Settings(*map(model.decimal, words[2:])))
         elif words[0] == b"frame":
             yield from place_of_frame(console, model.identifier(words[1]), model.octets(words[2:]))
         else:
@@ -56,11 +78,15 @@ def place_of(console, line, past):
         return
 
 
-def place_of_settings(c, name, given, *more):
+def place_of_settings(c, name, given, *more, closed=True):
     wide = max(*given, *more) >= 2**64
     if c.phase != "closed":
         if wide:
             yield "%s 64 bits and more, %s" % (name, c.phase)
+        return
+    if wide:
+        yield "%s 64 bits and more" % name
+    if not closed:
         return
     for field, value, (low, high), most in zip(given._fields, given, model.RANGES, WIDEST):
         if value in (low - 1, low, high, high + 1):
@@ -69,8 +95,43 @@ def place_of_settings(c, name, given, *more):
             yield "%s %s too wide" % (name, field)
     if given.t1 in (0x40, 0x41, 0x80, 0xC0, 0xC1):
         yield "%s t1 %d" % (name, given.t1)
-    if wide:
-        yield "%s 64 bits and more" % name
+
+
+def good_elsewhere(given, row, but):
+    """Whether all settings but the named ones are good in the row, so that the answer shows how those are judged."""
+    limits = {**dict(zip(given._fields, model.RANGES)), **{name: LIMITS[row][name] for name in ("unit", "rx")}}
+    t1, t3 = model.tenths(given.t1 % 256), model.tenths(given.t3 % 256)
+    return all(name in but or limits[name][0] <= value <= limits[name][1] for name, value in given._asdict().items()) and (
+        "t1" in but or t1 > 0) and ("t3" in but or t3 >= 100) and ("twait" in but or t3 < given.twait < t1)
+
+
+def place_of_old(c, row, given):
+    """Settings of TP 1.6, of which one alone is at a limit or beyond it; what they would be in another row."""
+    yield from place_of_settings(c, "open16", given, closed=False)
+    if c.phase != "closed":
+        return
+    for field, value, limits, most in zip(given._fields, given, model.RANGES, WIDEST):
+        low, high = LIMITS[row].get(field, limits)
+        if not good_elsewhere(given, row, (field, "twait") if field in ("t1", "t3") else (field,)):
+            continue
+        if value in (low - 1, low, high, high + 1) and field not in ("t3", "twait"):
+            yield "%s %s %d" % (row, field, value)
+        if value > most:
+            yield "%s %s too wide" % (row, field)
+        for other, theirs in LIMITS.items():
+            if field in theirs and LIMITS[row][field] != theirs[field] and value == theirs[field][0]:
+                yield "%s %s of %s" % (row, field, other)
+        if field == "rx" and value in (LIMITS[row]["tx"][0], LIMITS[row]["rx"][0] & 0xFF):
+            yield "%s rx %d" % (row, value)
+    t1, t3 = model.tenths(given.t1 % 256), model.tenths(given.t3 % 256)
+    if good_elsewhere(given, row, ("twait",)):
+        for name, bound in (("T3", t3), ("T1", t1)):
+            if near(given.twait, bound):
+                yield "%s T_WAIT %s, %s" % (row, name, near(given.twait, bound))
+    if good_elsewhere(given, row, ("t3",)) and given.t3 < 256 and t3 < given.twait < t1:
+        yield "t3 code %02X" % given.t3
+        if given.t3 in (0x49, 0x4A):
+            yield "%s T3 %d" % (row, t3)
 
 
 def place_of_call(console, words, past):
@@ -85,6 +146,8 @@ def place_of_call(console, words, past):
                 yield from place_of_end(c, name)
         if span == model.TIME:
             yield "time longest, %s" % c.phase
+        if c.phase == "open" and 0 < c.settings.interval <= span and c.profile is not model.TP20:
+            yield "time of the unused interval"
     elif words[0] == b"close":
         yield "close %s" % c.phase
     elif c.phase != "open":
@@ -115,6 +178,8 @@ def place_of_call(console, words, past):
             yield "due test kept back"
         if c.sender.length and c.test_due():
             yield "due test in a message"
+        if c.receiver.ack and c.sender.due() and not c.answering and not c.test_due():
+            yield "due Ack and data"
 
 
 def place_of_end(c, name):
@@ -127,6 +192,8 @@ def place_of_end(c, name):
         count, most = c.unanswered, c.settings.tests
     else:
         return
+    if name == "T_E" and count == most == 20:
+        yield "T_E ends, 20 of 20"
     if count == most:
         yield "%s ends, count %s" % (name, "0 of 0" if most == 0 else "255 of 255" if most == 255 else "full")
     elif count == most - 1:
@@ -148,6 +215,8 @@ def filled(console, line):
         return None
     if ident != c.settings.rx or len(data) != 8:
         return None
+    if data[0] in (0xA3, 0xA4) and c.profile is not model.TP20:
+        return None
     if data[0] == 0xA1:
         return data[:6]
     return data[:1] if data[0] in (0xA3, 0xA4, 0xA8, *range(0x90, 0xA0), *range(0xB0, 0xC0)) else None
@@ -156,6 +225,8 @@ def filled(console, line):
 def place_of_frame(console, ident, data):
     c = console.connection
     where = "closed" if c.phase == "closed" else "another ID" if ident != c.listens_on() else c.phase
+    if c.phase == "setup" and c.profile is not model.TP20:
+        yield from ("%s reply on %03X and unit" % (c.profile.NAME, base) for base in SETUPS if ident == base + c.settings.unit)
     if data:
         yield "%s of %d, %s" % (named(data[0]), len(data), where)
     if where == "closed":
@@ -164,6 +235,9 @@ def place_of_frame(console, ident, data):
         return
     if c.phase == "setup":
         yield "bytes setup %d" % len(data)
+        if c.profile is not model.TP20:
+            yield from place_of_old_reply(c, data)
+            return
         if len(data) == 7 and data[1] in (0xD0, 0xD6, 0xD7, 0xD8):
             yield "reply %02X, asked %s, due %s" % (data[1], c.asked, c.asking)
         if len(data) == 8 and data[0] == 0x00 and c.asked:
@@ -174,10 +248,34 @@ def place_of_frame(console, ident, data):
         yield from place_of_a1(c, data, c.asked, "asked %s, due %s" % (c.asked, c.asking))
 
 
+def place_of_old_reply(c, data):
+    """A reply by TP 1.6: with one thing that counts, all else being good."""
+    row, state = c.profile.NAME, "asked %s, due %s" % (c.asked, c.asking)
+    if len(data) == 7 and data[0] == 0x00 and data[1] in (0xD0, 0xD8):
+        yield "reply %02X of TP 2.0" % data[1]
+    if len(data) >= 3 and data[0] == 0x00 and data[1] in (0xD0, 0xD8) and (data[1] == 0xD8 or c.profile.named_by(data, c.settings)):
+        yield "reply %02X of %d" % (data[1], len(data))
+    if len(data) != 3:
+        return
+    if data[1] in (0xD0, 0xD6, 0xD7, 0xD8):
+        yield "%s reply %02X, byte 0 %s" % (row, data[1], "00" if data[0] == 0x00 else "another")
+    if data[0] != 0x00:
+        return
+    if data[1] in (0xD0, 0xD8):
+        yield "reply %02X, %s" % (data[1], state)
+    if data[1] == 0xD0:
+        low, high = LIMITS[row]["tx"]
+        tx = low - low % 256 + data[2]
+        if tx in (low - 1, low, high, high + 1):
+            yield "%s D0 names %03X" % (row, tx)
+        if tx == c.settings.rx:
+            yield "%s D0 names our own ID" % row
+
+
 def place_of_sorted(console, data):
     """A frame where telegrams are sorted; on an open connection, what it finds there."""
     c = console.connection
-    kind, _ = sort(data)
+    kind, _ = c.sort(data)
     yield "bytes %s %d" % (c.phase, len(data))
     yield "kind %s %s" % (c.phase, kind)
     if c.phase == "open":
@@ -274,7 +372,7 @@ def past_after(past, console, line, places, answer):
     number, *rest = answer.split(" ")
     if name_of(line) == b"take" and number == "0":
         return {"a flagged message" if rest[0] == "flags" else "an unflagged message"}
-    return past | {"%s, %s" % (place, number) for place in places if "flagged" in place and "after" not in place}
+    return past | {"%s, %s" % (place.removeprefix(OLD), number) for place in places if "flagged" in place and "after" not in place}
 
 
 def timers(c):
@@ -321,7 +419,7 @@ time hold one less: 0|time hold equal: 0|time T3 one less: 0|time T3 equal: 0|ti
 time test equal: 8|time interval one less: 0|time interval equal: 0|time longest, open: 0|time longest, open: 8
 wait ends, count 0 of 0: 8|wait ends, count full: 8|wait ends, count one short: 0|test ends, count 0 of 0: 8
 test ends, count full: 8|test ends, count one short: 0|kind open None: 1|kind open disconnect: 0|kind open test: 0
-close open: 0|due all kinds: 0|due test kept back: 0|due test in a message: 0|first frame, 2 bytes, last True: 9
+close open: 0|due all kinds: 0|due Ack and data: 0|due test kept back: 0|due test in a message: 0|first frame, 2 bytes, last True: 9
 first frame, 2 bytes, last False: 9|thrown frame, 2 bytes, last False: 0|thrown frame, 8 bytes, last True: 0
 first frame short, last False, asks True: 0|first frame short, last True, asks True: 9
 first frame full, last False, asks True: 9|first frame full, last True, asks False: 0
@@ -423,16 +521,96 @@ def at_lengths(phases):
 
 def open_places():
     """All that a run at either side must have reached on an open connection."""
-    flags = [place % nibble for nibble in range(16) for place in (
+    return with_padding(listed(OPEN)) + flagged()
+
+
+def flagged():
+    return [place % nibble for nibble in range(16) for place in (
         "take, flags %X: 0", "take, flags %X: 7", "first frame, room one less, flags %X: 7",
         "first frame, room equal, flags %X: 0", "first frame, room one more, flags %X: 0",
         *("declared %d, flags %%X: %d" % pair for pair in DECLARED.items()))]
-    return with_padding(listed(OPEN)) + flags
+
+
+# By TP 1.6 all that both protocols have is asked for once more, but for what starts so: a test or a break is in it, or a form of the
+# opening. What stands in its place follows.
+GONE = ("break", "test ", "time test", "time interval", "due all kinds", "due test", "kind open test", "kind parameters test",
+        "kind parameters break", "A1 block", "A1 of 8, open", "padded A1, open", "open ", "reply ", "A8 due", "close closed",
+        "frame closed", "CR ")
+INSTEAD = """
+A1 block 0, test out False, again False: 4|A1 block 1, test out False, again False: 4
+A1 block 15, test out False, again False: 4|A1 block 16, test out False, again False: 4
+A1 block 0, asked True, due False: 2|A1 block 1, asked True, due False: 0|A1 block 15, asked True, due False: 0
+A1 block 16, asked True, due False: 2|A1 block 15, asked False, due True: 4|A1 block 16, asked False, due True: 4
+A1 block 15, asked True, due True: 0|A1 of 8, open: 4 padded|test of 1, parameters: 1|test of 8, parameters: 1
+test of 1, open: 1|test of 8, open: 1|break of 1, parameters: 1|break of 8, parameters: 1|break of 1, open: 1
+break of 8, open: 1|time of the unused interval: 0|reply D0, asked True, due False: 0|reply D0, asked True, due True: 0
+reply D0, asked False, due True: 4|reply D0, asked True, due False: 1|reply D0, asked False, due True: 1
+reply D8, asked True, due False: 11|reply D8, asked True, due True: 11|reply D8, asked False, due True: 4
+reply D0 of TP 2.0: 1|reply D8 of TP 2.0: 1|reply D0 of 3: 0|reply D8 of 3: 11|reply D0 of 4: 1|reply D8 of 4: 1
+reply D0 of 8: 1|reply D8 of 8: 1|open 64 bits and more, setup: 4|open 64 bits and more, parameters: 4
+open 64 bits and more, open: 4|open16 64 bits and more, setup: 4|open16 64 bits and more, parameters: 4
+open16 64 bits and more, open: 4|T_E ends, 20 of 20: 8
+"""
+
+
+def old_places():
+    """All that a run must have reached by TP 1.6."""
+    both = [place for place in listed(OPEN) + listed(REACHED) if not place.startswith(GONE) and " after break" not in place]
+    instead = listed(INSTEAD)
+    padded = [place for place in with_padding(instead) if place not in instead and place.startswith("A1 ")]
+    lengths = ["bytes setup %d: 1" % length for length in range(13)] + at_lengths(("parameters", "open"))
+    found = [OLD + place for place in (*with_padding(both), *instead, *padded, *lengths, *flagged(),
+                                       *unsorted("another ID: 3", "setup: 1"))]
+    for row in LIMITS:
+        found += settings_of(row) + replies_of(row)
+    # No T1 is longer than the longest T3, so that code leaves no T_WAIT.
+    found += ["t3 code %02X: %d" % (code, 0 if model.tenths(code) >= 100 else 10) for code in range(255)]
+    return found + ["open16 64 bits and more: 10", "A8 due, open16: 0", "A8 due, open16: 10"]
+
+
+def settings_of(row):
+    """Each setting at both sides of each limit, and the lowest unit and receive ID of the other rows."""
+    limits = LIMITS[row]
+    found = ["open16 %s, closed: 0" % row]
+    for phase in ("setup", "parameters", "open"):
+        found += ["%sopen16 %s, %s: 4" % (old, row, phase) for old in ("", OLD)]
+    for field, usual, most in zip(Settings._fields, model.RANGES, WIDEST):
+        low, high = limits.get(field, usual)
+        found.append("%s %s too wide: 10" % (row, field))
+        if field not in ("t3", "twait"):
+            found += ["%s %s %d: %d" % (row, field, value, 0 if low <= value <= high else 10)
+                      for value in (low - 1, low, high, high + 1) if 0 <= value <= most and (field, value) != ("t1", 0)]
+    found += ["%s %s of %s: %d" % (row, what, other, 0 if limits[what][0] <= theirs[what][0] <= limits[what][1] else 10)
+              for other, theirs in LIMITS.items() for what in ("unit", "rx") if limits[what] != theirs[what]]
+    if limits["tx"] != limits["rx"]:
+        found.append("%s rx %d: 10" % (row, limits["tx"][0]))
+    if limits["rx"][0] & 0xFF:
+        found.append("%s rx %d: 10" % (row, limits["rx"][0] & 0xFF))
+    found += ["%s T_WAIT %s: %d" % (row, *pair) for pair in (
+        ("T3, one less", 10), ("T3, equal", 10), ("T3, one more", 0), ("T1, one less", 0), ("T1, equal", 10), ("T1, one more", 10))]
+    return found + ["%s T3 90: 10" % row, "%s T3 100: 0" % row]
+
+
+def replies_of(row):
+    """Each opcode, byte 0, the transmit IDs at the limits and our own, and the setups of the other rows."""
+    low, high = LIMITS[row]["tx"]
+    own = LIMITS[row]["from"][0] - LIMITS[row]["unit"][0]
+    found = ["%s reply %s, byte 0 %s: %d" % (row, *one) for one in (
+        ("D0", "00", 0), ("D0", "00", 1), ("D0", "another", 1), ("D6", "00", 1), ("D7", "00", 1), ("D8", "00", 11), ("D8", "another", 1))]
+    found += ["%s D0 names %03X: %d" % (row, tx, 0 if low <= tx <= high else 1)
+              for tx in (low - 1, low, high, high + 1) if tx // 256 == low // 256]
+    found += ["%s reply on %03X and unit: 3" % (row, other) for other in SETUPS if other != own]
+    found.append("%s D0 names our own ID: %d" % (row, 0 if row == "drive" else 1))
+    return [OLD + place for place in found]
+
+
+def unsorted(*answered):
+    """Every kind at 8 bytes where nothing is sorted."""
+    return ["%s of 8, %s" % (kind, place) for kind in OWN for place in answered]
 
 
 def missing(tally):
     lengths = ["bytes setup %d: 1" % length for length in range(13)] + at_lengths(("parameters", "open"))
-    unsorted = [place % kind for kind in OWN
-                for place in ("%s of 8, closed: 4", "%s of 8, another ID: 3", "%s of 8, setup: 1")]
-    wanted = [*ANSWERS, *lengths, *unsorted, *open_places(), *with_padding(listed(REACHED))]
+    wanted = [*ANSWERS, *lengths, *unsorted("closed: 4", "another ID: 3", "setup: 1"), *open_places(), *with_padding(listed(REACHED)),
+              *old_places()]
     return [name for name in wanted if not tally[name]]

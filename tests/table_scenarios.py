@@ -28,7 +28,8 @@ NO_CALLS = (
     "8 time 18446744073709551616", "8 send", "8 send 0", "8 room", "8 room 4097", "8 due 0", "8 take 1", "8 close now",
     "8 buffer 0", "9 room 5000", "255 time 18446744073709551616", "255 send xx", "owner", "owner -", "owner 300 300",
     "owner 00300", "owner g00", "owner 0x300", "owner 10000", "owner 300 A8", "owner 300 -", "Owner 300", "owner300", "new 0",
-    "0 \rdue", "0\r due", "0 due\r\r", "owner \r300", "0 Due", "0 DUE", "/ due", ": due", "0/ due")
+    "0 \rdue", "0\r due", "0 due\r\r", "owner \r300", "0 Due", "0 DUE", "/ due", ": due", "0/ due", "open16 drive", "0 open16 drive",
+    "open16 low 1680 48 8 138 74 1000 20 5 500 10000 5")
 
 TOO_LARGE = (256, 256, 257, 263, 264, 300, 511, 512, 999, 1000, 65535, 65536, 65543, 2**32, 2**32 + 7, *WIDE)
 

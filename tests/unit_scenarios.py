@@ -19,7 +19,8 @@ class UnitPlay(Play):
     SECOND = "set", "set %s 208" % GOOD, "set %s 209" % GOOD, "set %s 18446744073709551824" % GOOD
     MALFORMED = (*MALFORMED, "open", "open 768 1 15 138 50 1000 10 5 1000 0 5", "SET", "set-", "sets", "set 1", "set -",
                  "set " + GOOD, "set %s 208 208" % GOOD, "set %s x" % GOOD, "set %s D0" % GOOD, "set %s -208" % GOOD,
-                 "set %s 0xD0" % GOOD, "set x" + GOOD[4:] + " 208", "set\r", "set 208\r\r")
+                 "set %s 0xD0" % GOOD, "set x" + GOOD[4:] + " 208", "set\r", "set 208\r\r",
+                 "open16 drive", "open16 low 1680 48 8 138 74 1000 20 5 500 10000 5", "set16 drive")
     ENDS = "unit", "tester"
 
     def __init__(self, rng, start, tally, check):

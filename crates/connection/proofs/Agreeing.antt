@@ -7,6 +7,8 @@ use mathlib.Core.Path.{_≡_, refl}
 use borrow.Author.Tests.{eq-eqb, ne-eqb, lt-ltb, le-ltb}
 use Rattle.laws.proofs.Cases.{either}
 use Rattle.telegram.specs.Kinds.{badBlock, kindOf}
+use Rattle.laws.specs.If.{if_then_else_}
+use Rattle.profile.specs.Profile.{sortedBy}
 use Rattle.settings.proofs.Agreement.{unit, tenths-are}
 use Rattle.channel.specs.declared.Answer.the-variants.{Good, Disconnected, Malformed, BlockSize, NotDue}
 use Rattle.connection.specs.declared.Connection.{Connection}
@@ -32,6 +34,7 @@ module _ (c : Connection) (agreeing′ : c .phase ≡ 2) where
         connection =
             record {
               phase = 2;
+              profile = c .profile;
               settings = c .settings;
               attempt = record { due = false; asked = true; wait = c .settings .«t_e»; repeats = c .attempt .repeats };
               leaving = c .leaving;
@@ -67,7 +70,7 @@ module _ (c : Connection) (agreeing′ : c .phase ≡ 2) where
   -- ---- the A1
 
   module _ (limit id room : ℕ) (heard : id ≡ c .end .receive) (b t1 t2 t3 t4 : ℕ) where
-    -- the A1 opens, and what is agreed: the smaller block size, our own T1, the peer's T3; repeats, T_WAIT, interval and allowance are ours.
+    -- the A1 opens, and what is agreed: the smaller block size, our own T1, the peer's T3; repeats, T_WAIT, interval and allowance are ours, and without tests the interval is 0.
     -- "After the A1 all numbers start at 0, and no message received or in sending, due frame, wait or hold remains from before it"
     pub arrived-accept : 1 ≤ b → b ≤ 15 → c .attempt .asked ≡ true → c .settings .t1 < 256 → t3 < 256
         → arrived limit c id (0xA1 ∷ b ∷ t1 ∷ t2 ∷ t3 ∷ t4 ∷ []) room
@@ -77,6 +80,7 @@ module _ (c : Connection) (agreeing′ : c .phase ≡ 2) where
           connection =
               record {
                 phase = 3;
+                profile = c .profile;
                 settings = c .settings;
                 attempt = record { due = false; asked = false; wait = 0; repeats = 0 };
                 leaving = false;
@@ -96,7 +100,7 @@ module _ (c : Connection) (agreeing′ : c .phase ≡ 2) where
                                         repeats = c .settings .mntb;
                                         «t_wait» = c .settings .«t_wait»;
                                       };
-                                  interval = c .settings .«t_ct»;
+                                  interval = if c .profile .tests then c .settings .«t_ct» else 0;
                                   allowed = c .settings .mnct;
                                   own = record { block = c .settings .block; t1 = c .settings .t1; t3 = c .settings .t3 };
                                 };
@@ -108,59 +112,59 @@ module _ (c : Connection) (agreeing′ : c .phase ≡ 2) where
                                   complete = record { length = 0; flags = 0 };
                                   ack = record { due = false; ready = false; number = 0 };
                                 };
-                            tests = record { out = false; again = false; wait = 0; unanswered = 0; interval = c .settings .«t_ct» };
+                            tests = record { out = false; again = false; wait = 0; unanswered = 0; interval = if c .profile .tests then c .settings .«t_ct» else 0 };
                             accept = false;
                           };
                     };
               };
         }
-    unfolding arrived hears listensOn kindOf onAgreeing onAccept badBlock
+    unfolding arrived hears listensOn kindOf sortedBy onAgreeing onAccept badBlock
     arrived-accept low high a s t =
         rw (agreeing′, eq-eqb _ _ heard, a, ne-eqb b 0 (λ z. omega arith), le-ltb 15 b high, tenths-are (c .settings .t1) s, tenths-are t3 t)
 
     -- "A reply before its request was ever handed over gives 4", whatever stands in it
     pub arrived-accept-early : c .attempt .asked ≡ false → arrived limit c id (0xA1 ∷ b ∷ t1 ∷ t2 ∷ t3 ∷ t4 ∷ []) room ≡ record { told = plainly NotDue 4; padded = false; connection = c }
-    unfolding arrived hears listensOn kindOf onAgreeing onAccept
+    unfolding arrived hears listensOn kindOf sortedBy onAgreeing onAccept
     arrived-accept-early a = rw (agreeing′, eq-eqb _ _ heard, a)
 
     -- row 2, "A1 block size 0 or over 15": nothing changes
     pub arrived-accept-none : b ≡ 0 → c .attempt .asked ≡ true → arrived limit c id (0xA1 ∷ b ∷ t1 ∷ t2 ∷ t3 ∷ t4 ∷ []) room ≡ record { told = plainly BlockSize 2; padded = false; connection = c }
-    unfolding arrived hears listensOn kindOf onAgreeing onAccept badBlock
+    unfolding arrived hears listensOn kindOf sortedBy onAgreeing onAccept badBlock
     arrived-accept-none z a = rw (agreeing′, eq-eqb _ _ heard, a, z)
 
     pub arrived-accept-over : 15 < b → c .attempt .asked ≡ true → arrived limit c id (0xA1 ∷ b ∷ t1 ∷ t2 ∷ t3 ∷ t4 ∷ []) room ≡ record { told = plainly BlockSize 2; padded = false; connection = c }
-    unfolding arrived hears listensOn kindOf onAgreeing onAccept badBlock
+    unfolding arrived hears listensOn kindOf sortedBy onAgreeing onAccept badBlock
     arrived-accept-over o a = rw (agreeing′, eq-eqb _ _ heard, a, ne-eqb b 0 (λ z. omega arith), lt-ltb 15 b o)
 
   module _ (limit id room : ℕ) (heard : id ≡ c .end .receive) where
     -- "While A1 is awaited, only A1 and A8 are due kinds": "Disconnect: closed, one A8 due", asked or not
     pub arrived-agreeing-disconnect : arrived limit c id (0xA8 ∷ []) room ≡ record { told = plainly Disconnected 0; padded = false; connection = atRest true (c .end .transmit) }
-    unfolding arrived hears listensOn kindOf onAgreeing
+    unfolding arrived hears listensOn kindOf sortedBy onAgreeing
     arrived-agreeing-disconnect = rw (agreeing′, eq-eqb _ _ heard)
 
-    -- so a test, a break and an A0 give 4
-    pub arrived-agreeing-test : arrived limit c id (0xA3 ∷ []) room ≡ record { told = plainly NotDue 4; padded = false; connection = c }
-    unfolding arrived hears listensOn kindOf onAgreeing
-    arrived-agreeing-test = rw (agreeing′, eq-eqb _ _ heard)
+    -- so a test, a break and an A0 give 4; where the profile has no tests, "A3 and A4 are answer 1" (02, 10: `no-test-awaited`)
+    pub arrived-agreeing-test : c .profile .tests ≡ true → arrived limit c id (0xA3 ∷ []) room ≡ record { told = plainly NotDue 4; padded = false; connection = c }
+    unfolding arrived hears listensOn kindOf sortedBy onAgreeing
+    arrived-agreeing-test t = rw (agreeing′, eq-eqb _ _ heard, t)
 
-    pub arrived-agreeing-break : arrived limit c id (0xA4 ∷ []) room ≡ record { told = plainly NotDue 4; padded = false; connection = c }
-    unfolding arrived hears listensOn kindOf onAgreeing
-    arrived-agreeing-break = rw (agreeing′, eq-eqb _ _ heard)
+    pub arrived-agreeing-break : c .profile .tests ≡ true → arrived limit c id (0xA4 ∷ []) room ≡ record { told = plainly NotDue 4; padded = false; connection = c }
+    unfolding arrived hears listensOn kindOf sortedBy onAgreeing
+    arrived-agreeing-break t = rw (agreeing′, eq-eqb _ _ heard, t)
 
     pub arrived-agreeing-setup : (b t1 t2 t3 t4 : ℕ) → arrived limit c id (0xA0 ∷ b ∷ t1 ∷ t2 ∷ t3 ∷ t4 ∷ []) room ≡ record { told = plainly NotDue 4; padded = false; connection = c }
-    unfolding arrived hears listensOn kindOf onAgreeing
+    unfolding arrived hears listensOn kindOf sortedBy onAgreeing
     arrived-agreeing-setup b t1 t2 t3 t4 = rw (agreeing′, eq-eqb _ _ heard)
 
     -- and a ready Ack, and data of two bytes with AR and EOM, both of number 0
     pub arrived-agreeing-ack : arrived limit c id (0xB0 ∷ []) room ≡ record { told = plainly NotDue 4; padded = false; connection = c }
-    unfolding arrived hears listensOn kindOf onAgreeing
+    unfolding arrived hears listensOn kindOf sortedBy onAgreeing
     arrived-agreeing-ack = rw (agreeing′, eq-eqb _ _ heard)
 
     pub arrived-agreeing-data : (x : ℕ) → arrived limit c id (0x10 ∷ x ∷ []) room ≡ record { told = plainly NotDue 4; padded = false; connection = c }
-    unfolding arrived hears listensOn kindOf onAgreeing
+    unfolding arrived hears listensOn kindOf sortedBy onAgreeing
     arrived-agreeing-data x = rw (agreeing′, eq-eqb _ _ heard)
 
     -- what is badly formed gives 1: an A2, an A1 of a byte
     pub arrived-agreeing-malformed : (arrived limit c id (0xA2 ∷ []) room ≡ record { told = plainly Malformed 1; padded = false; connection = c }) × (arrived limit c id (0xA1 ∷ []) room ≡ record { told = plainly Malformed 1; padded = false; connection = c })
-    unfolding arrived hears listensOn kindOf onAgreeing
+    unfolding arrived hears listensOn kindOf sortedBy onAgreeing
     arrived-agreeing-malformed = (rw (agreeing′, eq-eqb _ _ heard), rw (agreeing′, eq-eqb _ _ heard))

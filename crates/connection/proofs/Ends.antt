@@ -9,7 +9,8 @@ use lib.Dec.{eqb}
 use lib.ListN.{length}
 use borrow.Author.Tests.{eq-eqb, ne-eqb, lt-ltb, le-ltb}
 use Rattle.laws.proofs.Cases.{or-first, or-second}
-use Rattle.telegram.specs.Kinds.{kindOf, sorted}
+use Rattle.telegram.specs.Kinds.{kindOf}
+use Rattle.profile.specs.Profile.{sortedBy}
 use Rattle.receiver.specs.Receiving.{received, buffered as bufferedBy, took}
 use Rattle.channel.specs.declared.Answer.the-variants.{Good, Disconnected, Busy, ShortBuffer, UsedUp}
 use Rattle.channel.specs.declared.Channel.{Channel}
@@ -29,6 +30,7 @@ abbrev pub holding : Connection → Channel → Connection
 holding c ch =
     record {
       phase = c .phase;
+      profile = c .profile;
       settings = c .settings;
       attempt = c .attempt;
       leaving = c .leaving;
@@ -40,36 +42,36 @@ module _ (c : Connection) (open′ : c .phase ≡ 3) where
 
   module _ (limit id : ℕ) (heard : id ≡ c .end .receive) (b : ℕ) (p : List ℕ) where
     -- an answer that neither is 8 nor to a disconnect: the record goes on with the channel that is left
-    pub arrived-goes-on : (room : ℕ) → (let r = channelArrived limit (c .end .channel) (sorted (b ∷ p) .kind) p room in
+    pub arrived-goes-on : (room : ℕ) → (let r = channelArrived limit (c .end .channel) (sortedBy (c .profile) (b ∷ p) .kind) p room in
         closes (r .answer) ≡ false
         → arrived limit c id (b ∷ p) room
         ≡ record {
           told = record { answer = ByChannel (r .answer); said = record { number = said (r .answer) .number; done = said (r .answer) .done; opcode = 0 } };
-          padded = sorted (b ∷ p) .padded;
+          padded = sortedBy (c .profile) (b ∷ p) .padded;
           connection = holding c (r .channel);
         })
     unfolding arrived hears listensOn onOpen arrivedAt courseOf settled
     arrived-goes-on room h =
-        let a = channelArrived limit (c .end .channel) (sorted (b ∷ p) .kind) p room .answer in
+        let a = channelArrived limit (c .end .channel) (sortedBy (c .profile) (b ∷ p) .kind) p room .answer in
         rw (open′, eq-eqb _ _ heard, or-first (eqb (said a .number) 8) (said a .disconnected) h, or-second (eqb (said a .number) 8) (said a .disconnected) h)
 
     -- 8: "record closed, nothing due"
-    pub arrived-used-up : (room : ℕ) → channelArrived limit (c .end .channel) (sorted (b ∷ p) .kind) p room .answer ≡ UsedUp
-        → arrived limit c id (b ∷ p) room ≡ record { told = plainly UsedUp 8; padded = sorted (b ∷ p) .padded; connection = atRest false 0 }
+    pub arrived-used-up : (room : ℕ) → channelArrived limit (c .end .channel) (sortedBy (c .profile) (b ∷ p) .kind) p room .answer ≡ UsedUp
+        → arrived limit c id (b ∷ p) room ≡ record { told = plainly UsedUp 8; padded = sortedBy (c .profile) (b ∷ p) .padded; connection = atRest false 0 }
     unfolding arrived hears listensOn onOpen arrivedAt courseOf settled
     arrived-used-up room e = rw (open′, eq-eqb _ _ heard, e)
 
     -- the lent buffer is what the receiving half makes of it
     pub buffered-open : (buffer : List ℕ)
         → buffered limit c id (b ∷ p) buffer
-        ≡ bufferedBy (c .end .channel .receiver) (received limit (c .end .channel .receiver) (sorted (b ∷ p) .kind) p (length buffer) .note) p buffer
+        ≡ bufferedBy (c .end .channel .receiver) (received limit (c .end .channel .receiver) (sortedBy (c .profile) (b ∷ p) .kind) p (length buffer) .note) p buffer
     unfolding buffered hears listensOn bufferedAt
     buffered-open buffer = rw (open′, eq-eqb _ _ heard)
 
   -- "Disconnect: closed, one A8 due", on the transmit ID
   pub arrived-disconnect : (limit id room : ℕ) → id ≡ c .end .receive
       → arrived limit c id (0xA8 ∷ []) room ≡ record { told = plainly Disconnected 0; padded = false; connection = atRest true (c .end .transmit) }
-  unfolding arrived hears listensOn onOpen arrivedAt channelArrived answered kindOf courseOf settled
+  unfolding arrived hears listensOn onOpen arrivedAt channelArrived answered kindOf sortedBy courseOf settled
   arrived-disconnect limit id room heard = rw (open′, eq-eqb _ _ heard)
 
   -- on another ID no buffer is written

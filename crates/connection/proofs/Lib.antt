@@ -5,3 +5,4 @@ pub mod Waiting
 pub mod Ends
 pub mod Adding
 pub mod Padding
+pub mod Profiles

@@ -16,7 +16,7 @@ use Rattle.connection.proofs.Rules.{atRest}
 
 -- the same record with another request
 abbrev pub asking : Connection → Attempt → Connection
-asking c a = record { phase = c .phase; settings = c .settings; attempt = a; leaving = c .leaving; end = c .end }
+asking c a = record { phase = c .phase; profile = c .profile; settings = c .settings; attempt = a; leaving = c .leaving; end = c .end }
 
 module _ (c : Connection) (n : ℕ) (opening : (c .phase ≡ 1) ⊎ (c .phase ≡ 2)) where
   awaits : elapsed c n ≡ attemptElapsed c n

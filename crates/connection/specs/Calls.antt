@@ -6,8 +6,7 @@ use lib.ListN.{length, take}
 use lib.Dec.{ltb, leb, eqb}
 use denote.Ref.{RefT, now}
 use Rattle.laws.specs.If.{if_then_else_}
-use Rattle.opening.specs.Opening.{requestId, requestOf, replyRead}
-use Rattle.telegram.specs.Kinds.{badBlock, sorted, setupOf, disconnectOf}
+use Rattle.telegram.specs.Kinds.{badBlock, setupOf, disconnectOf}
 use Rattle.opening.specs.declared.Reply.{Reply}
 use Rattle.opening.specs.declared.Reply.the-variants.{Positive, Refused as RefusedBy, Malformed as NoReply}
 use Rattle.telegram.specs.declared.cutting.Message.{Message}
@@ -15,7 +14,10 @@ use Rattle.telegram.specs.declared.kinds.Parameters.{Parameters as Fields}
 use Rattle.telegram.specs.declared.kinds.Telegram.{Telegram}
 use Rattle.telegram.specs.declared.kinds.Telegram.the-variants.{Data, Ack, Test, Break, Disconnect, Setup, Accept, Malformed as NoTelegram}
 use Rattle.telegram.specs.Cutting.{none}
-use Rattle.settings.specs.Settings.{allowed}
+use Rattle.profile.specs.Profile.{tp20, sortedBy}
+use Rattle.profile.specs.Opening.{requestFor, replyFor}
+use Rattle.profile.specs.declared.Profile.{Profile}
+use Rattle.settings.specs.Settings.{allowedBy}
 use Rattle.settings.specs.declared.Settings.{Settings}
 use Rattle.settings.specs.Agreed.{ownFields}
 use Rattle.channel.specs.declared.Answer.{Answer as ChannelAnswer}
@@ -35,7 +37,7 @@ use Rattle.connection.specs.declared.Arrived.{Arrived}
 use Rattle.connection.specs.declared.Due.{Due}
 use Rattle.connection.specs.declared.TakeStep.{TakeStep}
 use Rattle.connection.specs.declared.Taken.{Taken}
-use Rattle.connection.specs.Record.{isClosed, isRequesting, isAgreeing, isOpen, closedRecord, leavingOn, requesting, agreeing, opened, withAttempt, withOpenEnd, hears}
+use Rattle.connection.specs.Record.{isClosed, isRequesting, isAgreeing, isOpen, closedRecord, leavingOn, requestingAs, agreeing, opened, withAttempt, withOpenEnd, hears}
 
 -- ---- what a call gives
 
@@ -61,12 +63,16 @@ shows a m c = record { told = told (Channel a); len = m .length; flags = m .flag
 
 -- ---- open
 
--- 4 if not closed, then 10; else the C0 is due, and an A8 that was due is discarded
-unfoldable pub opening : Connection → Settings → Answered
-opening c s =
+-- in a profile: 4 if not closed, then 10; else the C0 is due, and an A8 that was due is discarded
+unfoldable pub openingAs : Connection → Profile → Settings → Answered
+openingAs c p s =
     if not (isClosed c) then gives NotDue c
-    else if not (allowed s) then record { told = told OutOfRange; connection = c }
-    else gives Good (requesting s)
+    else if not (allowedBy p s) then record { told = told OutOfRange; connection = c }
+    else gives Good (requestingAs p s)
+
+-- in TP 2.0
+abbrev pub opening : Connection → Settings → Answered
+opening c s = openingAs c tp20 s
 
 -- ---- a frame arrives
 
@@ -115,15 +121,15 @@ unfoldable pub arrived : (limit : ℕ) → Connection → (id : ℕ) → (s : Li
 arrived limit c id s room =
     if isClosed c then marked false (gives NotDue c)
     else if not (hears c id) then marked false (record { told = told OtherId; connection = c })
-    else if isRequesting c then marked false (onReply c (replyRead s (c .settings .receive)))
-    else if isAgreeing c then marked (sorted s .padded) (onAgreeing c (sorted s .kind))
-    else marked (sorted s .padded) (onOpen limit c (sorted s .kind) s room)
+    else if isRequesting c then marked false (onReply c (replyFor (c .profile) s (c .settings .receive)))
+    else if isAgreeing c then marked (sortedBy (c .profile) s .padded) (onAgreeing c (sortedBy (c .profile) s .kind))
+    else marked (sortedBy (c .profile) s .padded) (onOpen limit c (sortedBy (c .profile) s .kind) s room)
 
 -- the lent buffer after it: only an open channel's data on our receive ID is written
 unfoldable pub buffered : (limit : ℕ) → Connection → (id : ℕ) → (s b : List ℕ) → List ℕ
 buffered limit c id s b =
     if isClosed c || not (hears c id) || isRequesting c || isAgreeing c then b
-    else bufferedAt limit (c .end) (sorted s .kind) s b
+    else bufferedAt limit (c .end) (sortedBy (c .profile) s .kind) s b
 
 -- ---- time passes
 
@@ -182,7 +188,7 @@ openDue c m =
 unfoldable pub dueOf : Connection → List ℕ → Due
 dueOf c m =
     if isClosed c then closedDue c
-    else if isRequesting c then requestDue c (record { id = requestId; payload = requestOf (c .settings .unit) (c .settings .receive) })
+    else if isRequesting c then requestDue c (record { id = c .profile .request; payload = requestFor (c .profile) (c .settings .unit) (c .settings .receive) })
     else if isAgreeing c then requestDue c (record { id = c .end .transmit; payload = setupOf (ownFields (c .settings)) })
     else openDue c m
 

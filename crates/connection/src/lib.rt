@@ -8,8 +8,8 @@ ghost use lib.ListN.{length};
 ghost use Rattle.telegram.specs.Cutting.{longest};
 ghost use Rattle.opening.specs.declared.Reply.the-variants.{Positive, Refused as RefusedBy};
 ghost use Rattle.open_end.specs.OpenEnd.{bufferedAt};
-ghost use Rattle.connection.specs.Record.{closedRecord, leavingOn, requesting, agreeing, opened, hears, isOpen};
-ghost use Rattle.connection.specs.Calls.{gives, marked, handOver, handNothing, shows, opening, onReply, onAccept, onAgreeing, settled, onOpen, arrived, buffered, attemptElapsed, openElapsed, elapsed, closedDue, requestDue, openDue, dueOf, openSent, sentBy, openTaken, takenBy, takes, looked, closed};
+ghost use Rattle.connection.specs.Record.{closedRecord, leavingOn, requestingAs, agreeing, opened, hears, isOpen};
+ghost use Rattle.connection.specs.Calls.{gives, marked, handOver, handNothing, shows, openingAs, opening, onReply, onAccept, onAgreeing, settled, onOpen, arrived, buffered, attemptElapsed, openElapsed, elapsed, closedDue, requestDue, openDue, dueOf, openSent, sentBy, openTaken, takenBy, takes, looked, closed};
 use crate::attempt::Attempt;
 use crate::attempt::new_attempt;
 use crate::attempt::no_attempt;
@@ -22,10 +22,8 @@ use open_end::answers::tell;
 use open_end::course_of;
 use open_end::no_frame;
 use open_end::shown;
-use opening::REQUEST_ID;
 use opening::Reply;
-use opening::read_reply;
-use opening::write_request;
+use profile::Profile;
 use settings::Settings;
 use settings::agreed::agree;
 use settings::agreed::own_fields;
@@ -34,7 +32,6 @@ use telegram::cutting::NONE;
 use telegram::kinds::Parameters as Fields;
 use telegram::kinds::Telegram;
 use telegram::kinds::bad_block;
-use telegram::kinds::sort;
 use telegram::kinds::write_disconnect;
 use telegram::kinds::write_setup;
 use telegram::time::less;
@@ -56,6 +53,8 @@ pub struct Connection {
     // Closed, with one A8 due.
     pub leaving: bool,
     pub settings: Settings,
+    // What the opening, the telegrams and the ranges of the settings go by; TP 2.0 in a closed record.
+    pub profile: Profile,
     pub attempt: Attempt,
     // Its IDs are known from the D0 on, its channel is open from the A1 on; in a closed record its transmit ID is that of the A8
     // that is due.
@@ -122,6 +121,7 @@ impl Connection {
     {
         Connection {
             phase: CLOSED,
+            profile: Profile::tp20(),
             settings: Settings::default(),
             attempt: no_attempt(),
             leaving: false,
@@ -140,11 +140,12 @@ impl Connection {
     }
 
     // Opening: the C0 is due.
-    fn requesting(settings: Settings) -> Connection
-        ensures { λ r. ⌜ r ≡ requesting settings ⌝ }
+    fn requesting(profile: Profile, settings: Settings) -> Connection
+        ensures { λ r. ⌜ r ≡ requestingAs profile settings ⌝ }
     {
         Connection {
             phase: REQUESTING,
+            profile,
             settings,
             attempt: new_attempt(),
             leaving: false,
@@ -198,21 +199,28 @@ impl Connection {
         }
     }
 
-    // Opens a closed connection: the C0 is due.
+    // Opens a closed connection in TP 2.0: the C0 is due.
     pub fn open(self, settings: Settings) -> Answered
         ensures { λ r. ⌜ r ≡ opening self settings ⌝ }
+    {
+        self.open_as(Profile::tp20(), settings)
+    }
+
+    // Opens a closed connection in a profile.
+    pub fn open_as(self, profile: Profile, settings: Settings) -> Answered
+        ensures { λ r. ⌜ r ≡ openingAs self profile settings ⌝ }
     {
         let phase = self.phase;
         if phase != CLOSED {
             return self.gives(channel::Answer::NotDue);
         }
-        if !settings.in_range() {
+        if !settings.in_range_of(profile) {
             return Answered {
                 told: tell(Answer::OutOfRange),
                 connection: self,
             };
         }
-        Connection::requesting(settings).gives(channel::Answer::Good)
+        Connection::requesting(profile, settings).gives(channel::Answer::Good)
     }
 
     // Whether a frame's ID is the one that the record listens on.
@@ -220,13 +228,14 @@ impl Connection {
         ensures { λ r. ⌜ r ≡ hears self id ⌝ }
     {
         let phase = self.phase;
+        let profile = self.profile;
         let unit = self.settings.unit;
         let receive = self.end.receive;
         if phase == CLOSED {
             return false;
         }
         if phase == REQUESTING {
-            return id == REQUEST_ID + unit as u16;
+            return profile.answers_on(unit, id);
         }
         id == receive
     }
@@ -271,9 +280,11 @@ impl Connection {
     fn agreeing(self, transmit: u16) -> Connection
         ensures { λ r. ⌜ r ≡ agreeing self transmit ⌝ }
     {
+        let profile = self.profile;
         let settings = self.settings;
         Connection {
             phase: AGREEING,
+            profile,
             settings,
             attempt: new_attempt(),
             leaving: false,
@@ -285,13 +296,19 @@ impl Connection {
     fn opened(self, fields: Fields) -> Connection
         ensures { λ r. ⌜ r ≡ opened self fields ⌝ }
     {
+        let profile = self.profile;
         let settings = self.settings;
         Connection {
             phase: OPEN,
+            profile,
             settings,
             attempt: no_attempt(),
             leaving: false,
-            end: OpenEnd::fresh(self.end.transmit, self.end.receive, agree(settings, fields)),
+            end: OpenEnd::fresh(
+                self.end.transmit,
+                self.end.receive,
+                agree(settings.used_by(profile), fields),
+            ),
         }
     }
 
@@ -355,6 +372,7 @@ impl Connection {
         ensures { λ r. ⌜ now (buffer .exit) ≡ buffered longest self id (now (bytes .entry)) (now (buffer .entry)) ⌝ }
     {
         let phase = self.phase;
+        let profile = self.profile;
         let receive = self.settings.receive;
         if phase == CLOSED {
             return self.gives(channel::Answer::NotDue).marked(false);
@@ -366,9 +384,10 @@ impl Connection {
             }.marked(false);
         }
         if phase == REQUESTING {
-            return self.on_reply(read_reply(bytes, receive)).marked(false);
+            return self.on_reply(profile.read_reply(bytes, receive))
+                .marked(false);
         }
-        let s = sort(bytes);
+        let s = profile.sort(bytes);
         let kind = s.kind;
         if phase == AGREEING {
             return self.on_agreeing(kind).marked(s.padded);
@@ -458,14 +477,15 @@ impl Connection {
         ensures { λ r. ⌜ r ≡ dueOf self (now (message .entry)) ⌝ }
     {
         let phase = self.phase;
+        let profile = self.profile;
         let transmit = self.end.transmit;
         if phase == CLOSED {
             return self.closed_due();
         }
         if phase == REQUESTING {
-            let payload = write_request(self.settings.unit, self.settings.receive);
+            let payload = profile.request_to(self.settings.unit, self.settings.receive);
             return self.request_due(Frame {
-                id: REQUEST_ID,
+                id: profile.request,
                 payload,
             });
         }

@@ -6,7 +6,7 @@ use Rattle.connection_delivery.proofs.Around.{twoEnds}
 use Rattle.connection_delivery.proofs.Lawful.{connection-lawful}
 
 pub demand3 : Demand3OfRecords
-demand3 limit small = any-demand3 (twoEnds limit small (connection-lawful limit) (connection-lawful limit))
+demand3 limit small tests = any-demand3 (twoEnds limit small (connection-lawful limit tests) (connection-lawful limit tests))
 
 pub both-ways : BothWaysOfRecords
-both-ways limit small = any-both-ways (twoEnds limit small (connection-lawful limit) (connection-lawful limit))
+both-ways limit small tests = any-both-ways (twoEnds limit small (connection-lawful limit tests) (connection-lawful limit tests))

@@ -1,4 +1,5 @@
 pub mod Ends
+pub mod Keeps
 pub mod Around
 pub mod Lawful
 pub mod Opened

@@ -6,7 +6,9 @@ use mathlib.Core.List.{List}
 use mathlib.Core.Path.{_≡_, refl}
 use borrow.Author.Tests.{lt-ltb, le-ltb, not-true, not-false}
 use Rattle.laws.proofs.Cases.{by, by-not, by-lt, by-le, by-eq, Makes}
-use Rattle.settings.specs.Settings.{allowed}
+use Rattle.profile.specs.Opening.{requestFor}
+use Rattle.profile.specs.declared.Profile.{Profile}
+use Rattle.settings.specs.Settings.{allowedBy}
 use Rattle.settings.specs.declared.Settings.{Settings}
 use Rattle.open_end.specs.declared.Frame.{Frame}
 use Rattle.open_end.specs.declared.answers.Said.{Said}
@@ -15,13 +17,13 @@ use Rattle.connection.specs.declared.Connection.{Connection}
 use Rattle.connection.specs.declared.Answered.{Answered}
 use Rattle.connection.specs.declared.Due.{Due}
 use Rattle.connection.specs.declared.TakeStep.{TakeStep}
-use Rattle.connection.specs.Calls.{opening, attemptElapsed, openElapsed, elapsed, closedDue, requestDue, openDue, dueOf, openSent, sentBy, openTaken, takenBy, closed}
+use Rattle.connection.specs.Calls.{openingAs, attemptElapsed, openElapsed, elapsed, closedDue, requestDue, openDue, dueOf, openSent, sentBy, openTaken, takenBy, closed}
 use Rattle.open_rows.specs.Tables.{toldBy}
 use Rattle.open_rows.proofs.Same.{range-same}
 use Rattle.open_rows.proofs.Tests.{runs-out, still-runs, stopped, over-stopped, other-phase}
 use Rattle.open_rows.proofs.Calls.{open-time, open-due, open-send, open-take}
 use Rattle.connection_rows.specs.Records.{isClosed, isRequesting, isAgreeing, isOpen}
-use Rattle.connection_rows.specs.Rows.{openTable, openSays, timeTable, timeSays, dueTable, dueSays, sendTable, sendSays, takeTable, takeSays, closeTable, closeSays}
+use Rattle.connection_rows.specs.Rows.{openTable, openAsSays, timeTable, timeSays, dueTable, dueSays, sendTable, sendSays, takeTable, takeSays, closeTable, closeSays}
 use Rattle.connection_rows.proofs.Ways.{waysOf, settled-by}
 
 -- what a call says and leaves
@@ -30,11 +32,11 @@ tells r = (r .told .said, r .connection)
 
 -- ---- open
 
-pub open-told : (c : Connection) (s : Settings) → openSays c s ≡ toldBy (openTable c s)
-unfolding opening
-open-told c s =
-    by-not (Makes tells _) (isClosed c) (λ e. rw e) (λ e. rw (e, range-same s)
-    (by-not (Makes tells _) (allowed s) (λ e. rw e) (λ e. rw e)))
+pub open-told : (c : Connection) (p : Profile) (s : Settings) → openAsSays c p s ≡ toldBy (openTable c p s)
+unfolding openingAs
+open-told c p s =
+    by-not (Makes tells _) (isClosed c) (λ e. rw e) (λ e. rw (e, range-same p s)
+    (by-not (Makes tells _) (allowedBy p s) (λ e. rw e) (λ e. rw e)))
 
 -- ---- time passes
 
@@ -72,7 +74,7 @@ module _ (c : Connection) (m : List ℕ) where
   hands-over d = (d .told .said, (d .given, d .frame, d .connection))
 
   pub due-told : dueSays c m ≡ toldBy (dueTable c m)
-  unfolding dueOf closedDue requestDue openDue dueAt
+  unfolding dueOf requestFor closedDue requestDue openDue dueAt
   due-told =
       by (Makes hands-over _) (isClosed c)
       (λ e. rw (e, other-phase (c .phase) 0 1 e refl, other-phase (c .phase) 0 2 e refl) (by-not (Makes hands-over _) (c .leaving) (λ l. rw l) (λ l. rw l))) λ e.

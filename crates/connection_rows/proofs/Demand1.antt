@@ -2,6 +2,7 @@
 use mathlib.Core.Path.{refl, ap}
 use lib.ListN.{length, take}
 use denote.Ref.{now}
+use Rattle.open_rows.specs.Records.{tp20Numbers}
 use Rattle.connection_rows.specs.Demand1.{Demand1Holds}
 use Rattle.connection_rows.proofs.Arrival.{arrive-told}
 use Rattle.connection_rows.proofs.Calls.{open-told, time-told, due-told, send-told, take-told, close-told}
@@ -12,7 +13,8 @@ demand1 =
     record {
       limit = refl;
       arrive = λ limit c id s b. record { tells = arrive-told limit c id s b; exactly = arrive-row limit c id s b };
-      open′ = λ c s. record { tells = open-told c s; exactly = open-row c s };
+      openAs = λ c p s. record { tells = open-told c p s; exactly = open-row c p s };
+      open′ = λ c s. record { tells = open-told c tp20Numbers s; exactly = open-row c tp20Numbers s };
       time = λ c n. record { tells = time-told c n; exactly = time-row c n };
       due = λ c m. record { tells = due-told c m; exactly = due-row c m };
       send = λ limit c n. record { tells = send-told limit c n; exactly = send-row limit c n };

@@ -11,6 +11,7 @@ use borrow.Author.Tests.{ne-eqb, not-true}
 use Rattle.laws.specs.If.{if_then_else_}
 use Rattle.laws.proofs.Cases.{either, and-first, and-second, or-first, or-second}
 use Rattle.telegram.specs.declared.cutting.Message.{Message}
+use Rattle.profile.specs.declared.Profile.{Profile}
 use Rattle.settings.specs.declared.Settings.{Settings}
 use Rattle.channel.specs.declared.Channel.{Channel}
 use Rattle.open_end.specs.declared.answers.Said.{Said}
@@ -24,9 +25,9 @@ use Rattle.open_rows.proofs.Bytes.{setup-unpadded}
 use Rattle.open_rows.proofs.Tests.{other-phase}
 use Rattle.open_rows.proofs.Rows.{bare, with-mark, carries, finishing}
 use Rattle.connection_rows.specs.Records.{isClosed, isRequesting, isAgreeing, isOpen, closedRecord, leavingOn, asking, onChannel}
-use Rattle.connection_rows.specs.Rows.{kindNotDue, otherId, recordAfter, arrivalTable, arriveSays, openTable, openSays, recordLater, timeTable, timeSays, dueTable, dueSays, sendTable, sendSays, takeTable, takeSays, closeTable, closeSays}
+use Rattle.connection_rows.specs.Rows.{kindNotDue, otherId, recordAfter, arrivalTable, arriveSays, openTable, openAsSays, recordLater, timeTable, timeSays, dueTable, dueSays, sendTable, sendSays, takeTable, takeSays, closeTable, closeSays}
 use Rattle.connection_rows.proofs.Ways.{waysOf}
-use Rattle.connection_rows.proofs.Bytes.{refusal-unpadded}
+use Rattle.connection_rows.proofs.Bytes.{refusal-unpadded, ack-there}
 use Rattle.connection_rows.proofs.Arrival.{arrive-told}
 use Rattle.connection_rows.proofs.Calls.{open-told, time-told, due-told, send-told, take-told, close-told}
 
@@ -131,7 +132,7 @@ module _ (limit : ℕ) (c : Connection) (id : ℕ) (s b : List ℕ) where
               (
                 λ _ one three. padded,
                 (
-                  λ r. absurd (false≢true (sym (refusal-unpadded s (search and-second)) ∙ padded)),
+                  λ r. absurd (false≢true (sym (refusal-unpadded (c .profile) s (search and-second)) ∙ padded)),
                   carries (waysOf c) limit ch s b (isOpen c) (always (plain 0) (isPadded s, c, b)) padded (λ one three. padded),
                 ),
               ),
@@ -161,7 +162,7 @@ module _ (limit : ℕ) (c : Connection) (id : ℕ) (s b : List ℕ) where
       let closed : isClosed c ≡ false = search (or-first, or-second) in
       let req : isRequesting c ≡ false = search (or-first, or-second) in
       let agr : isAgreeing c ≡ false = search (or-first, or-second) in
-      told-done ∙ rw (closed, same, req, agr) (finishing (waysOf c) limit ch s b f)
+      told-done ∙ rw (closed, same, req, agr, ack-there (c .profile) s (search (and-first, and-second))) (finishing (waysOf c) limit ch s b f)
 
   -- "The message is done when its last frame is acknowledged, and the answer to that Ack says so"
   pub arrive-done : (arriveSays limit c id s b .0 .done ≡ true) ↔ ((isOpen c ≡ true) × (otherId c id ≡ false) × (finishes ch s ≡ true))
@@ -173,18 +174,18 @@ module _ (limit : ℕ) (c : Connection) (id : ℕ) (s b : List ℕ) where
 
 -- ---- open
 
-module _ (c : Connection) (s : Settings) where
-  pub open-row : (n : ℕ) → (openSays c s .0 .number ≡ n) ↔ Given n (openSays c s .1) (openTable c s)
-  open-row = given (openTable c s) (open-told c s)
+module _ (c : Connection) (p : Profile) (s : Settings) where
+  pub open-row : (n : ℕ) → (openAsSays c p s .0 .number ≡ n) ↔ Given n (openAsSays c p s .1) (openTable c p s)
+  open-row = given (openTable c p s) (open-told c p s)
 
-  pub open-row-0 : Says 0 (asking 1 s 0 0) (openSays c s) (openTable c s)
-  open-row-0 = says _ (open-told c s) 0 refl
+  pub open-row-0 : Says 0 (asking 1 p s 0 0) (openAsSays c p s) (openTable c p s)
+  open-row-0 = says _ (open-told c p s) 0 refl
 
-  pub open-row-4 : Says 4 c (openSays c s) (openTable c s)
-  open-row-4 = says _ (open-told c s) 4 (λ _. refl, tt)
+  pub open-row-4 : Says 4 c (openAsSays c p s) (openTable c p s)
+  open-row-4 = says _ (open-told c p s) 4 (λ _. refl, tt)
 
-  pub open-row-10 : Says 10 c (openSays c s) (openTable c s)
-  open-row-10 = says _ (open-told c s) 10 (λ _. refl, tt)
+  pub open-row-10 : Says 10 c (openAsSays c p s) (openTable c p s)
+  open-row-10 = says _ (open-told c p s) 10 (λ _. refl, tt)
 
 -- ---- time passes
 

@@ -1,5 +1,5 @@
 -- Demand 1, as one claim: what each call says and leaves is what its table in specs/Rows.antt tells, and each number is given exactly
--- where the table gives it, for every record, ID, frame, buffer, settings, time, message length and room. proofs/Demand1.antt proves it.
+-- where the table gives it, for every record, ID, frame, buffer, profile, settings, time, message length and room. proofs/Demand1.antt proves it.
 use Prim.Native.Nat.{ℕ}
 use mathlib.Core.Bool.{true, false}
 use mathlib.Core.List.{List}
@@ -10,13 +10,15 @@ use lib.Dec.{eqb}
 use denote.Ref.{RefT, now}
 use Rattle.laws.specs.If.{if_then_else_}
 use Rattle.telegram.specs.Cutting.{longest}
+use Rattle.profile.specs.declared.Profile.{Profile}
 use Rattle.settings.specs.declared.Settings.{Settings}
 use Rattle.open_rows.specs.Tables.{toldBy, GoesBy}
+use Rattle.open_rows.specs.Records.{tp20Numbers}
 use Rattle.open_rows.specs.Rows.{isPadded, finishes}
 use Rattle.connection.specs.declared.Connection.{Connection}
 use Rattle.connection.specs.Calls.{takes}
 use Rattle.connection_rows.specs.Records.{isClosed, isOpen}
-use Rattle.connection_rows.specs.Rows.{otherId, arrivalTable, arriveSays, openTable, openSays, timeTable, timeSays, dueTable, dueSays, sendTable, sendSays, takeTable, takeSays, closeTable, closeSays}
+use Rattle.connection_rows.specs.Rows.{otherId, arrivalTable, arriveSays, openTable, openAsSays, openSays, timeTable, timeSays, dueTable, dueSays, sendTable, sendSays, takeTable, takeSays, closeTable, closeSays}
 
 -- what 01 says of the numbers, call by call; the limit is the longest message's length
 pub record Demand1 : Type 0 where
@@ -24,8 +26,9 @@ pub record Demand1 : Type 0 where
   pub limit : longest ≡ 1024
   -- a CAN frame arrives, and a buffer is lent
   pub arrive : (limit : ℕ) (c : Connection) (id : ℕ) (s b : List ℕ) → GoesBy (arriveSays limit c id s b) (arrivalTable limit c id s b)
-  -- open
-  pub open′ : (c : Connection) (s : Settings) → GoesBy (openSays c s) (openTable c s)
+  -- open in a profile (02, request 10); and open, which is in TP 2.0
+  pub openAs : (c : Connection) (p : Profile) (s : Settings) → GoesBy (openAsSays c p s) (openTable c p s)
+  pub open′ : (c : Connection) (s : Settings) → GoesBy (openSays c s) (openTable c tp20Numbers s)
   -- time has passed
   pub time : (c : Connection) (n : ℕ) → GoesBy (timeSays c n) (timeTable c n)
   -- what is due to be sent

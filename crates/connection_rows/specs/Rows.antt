@@ -1,5 +1,5 @@
--- 01, "Numbers we answer with": each call's rows in the order of 01. What they ask and what they leave is written from the
--- record's fields, numbers and bytes, apart from the definitions that the promises cite: of those only the calls are named here.
+-- 01, "Numbers we answer with": each call's rows in the order of 01, in TP 2.0 and in TP 1.6 (02, request 10). What they ask and what they leave is
+-- written from the record's fields, those of its profile too, numbers and bytes, apart from the definitions that the promises cite: of those only the calls are named here.
 -- What belongs to an open channel stands in crates/open_rows. proofs/Rows.antt proves that each call says and leaves what its table tells.
 use Prim.Native.Nat.{ℕ, _+_, _-_, _/_, _%_}
 use mathlib.Core.Bool.{Bool, true, false, not, _&&_, _||_}
@@ -8,39 +8,55 @@ use lib.ListN.{length, getD}
 use lib.Dec.{ltb, leb, eqb}
 use Rattle.laws.specs.If.{if_then_else_}
 use Rattle.telegram.specs.declared.payload.Payload.{Payload}
+use Rattle.profile.specs.declared.Profile.{Profile}
 use Rattle.settings.specs.declared.Settings.{Settings}
 use Rattle.open_end.specs.declared.Frame.{Frame}
 use Rattle.open_end.specs.declared.answers.Said.{Said}
 use Rattle.open_rows.specs.Tables.{plain, row, Table, always, _orElse_}
 use Rattle.open_rows.specs.Records.{onSender, onReceiver}
-use Rattle.open_rows.specs.Rows.{isTelegram, isDisconnect, isSetup, isAccept, isPadded, idOf, noTestOut, badBlock, outOfPlace, changesNothing, notReadyTooOften, noMessage, isWaiting, waitsUntaken, shortLater, broken, shortFirst, askedForAck, thrownAway, finishes, channelAfter, bufferAfter, inRange, runsOut, repeatsUsedUp, testsUsedUp, oneMore, channelLater, hands, handsNone, single, sixBytes, testDue, testOut, acceptOut, ackOut, ackByte, dataDue, dataOf, dataOut, messageAccepted, messageTaken}
+use Rattle.open_rows.specs.Rows.{isTest, isBreak, isTelegram, isDisconnect, isSetup, isAccept, isPadded, idOf, noTestOut, badBlock, outOfPlace, changesNothing, notReadyTooOften, noMessage, isWaiting, waitsUntaken, shortLater, broken, shortFirst, askedForAck, thrownAway, finishes, channelAfter, bufferAfter, isOutside, inRangeOf, runsOut, repeatsUsedUp, testsUsedUp, oneMore, channelLater, hands, handsNone, single, sixBytes, testDue, testOut, acceptOut, ackOut, ackByte, dataDue, dataOf, dataOut, messageAccepted, messageTaken}
 use Rattle.connection.specs.declared.attempt.Attempt.{Attempt}
 use Rattle.connection.specs.declared.Connection.{Connection}
-use Rattle.connection.specs.Calls.{opening, arrived, buffered, elapsed, dueOf, sentBy, takenBy, closed}
+use Rattle.connection.specs.Calls.{openingAs, opening, arrived, buffered, elapsed, dueOf, sentBy, takenBy, closed}
 use Rattle.connection_rows.specs.Records.{isClosed, isRequesting, isAgreeing, isOpen, closedRecord, leavingOn, asking, openedBy, onAttempt, onChannel}
 
 -- ---- the replies to a C0, by their bytes
 
--- D6, D7, D8: "of these only length, byte 0 and opcode are checked"
-unfoldable pub isRefusal : List ℕ → Bool
-isRefusal s = eqb (length s) 7 && eqb (getD s 0 0) 0x00 && (leb 0xD6 (getD s 1 0) && leb (getD s 1 0) 0xD8)
+-- "7 bytes: 00, .."; in TP 1.6 "a fixed length of 3 data bytes" (001, 5.1)
+unfoldable pub isReply : Profile → List ℕ → Bool
+isReply p s = eqb (length s) (if p .short then 3 else 7) && eqb (getD s 0 0) 0x00
 
--- "7 bytes: 00, D0, our receive ID low and high, our transmit ID low and high, 01"; "bits 2-0 belong to the ID", and the other bits of the high bytes are 0
-unfoldable pub isPositive : (receive : ℕ) → List ℕ → Bool
-isPositive receive s =
-    eqb (length s) 7 && eqb (getD s 0 0) 0x00 && eqb (getD s 1 0) 0xD0
-    && ltb (getD s 3 0) 8 && eqb (idOf (getD s 2 0) (getD s 3 0)) receive
-    && ltb (getD s 5 0) 8 && eqb (getD s 6 0) 0x01
+-- D6, D7, D8: "of these only length, byte 0 and opcode are checked"; "negative reply D8 only" in TP 1.6
+unfoldable pub isRefusal : Profile → List ℕ → Bool
+isRefusal p s = isReply p s && (leb (if p .short then 0xD8 else 0xD6) (getD s 1 0) && leb (getD s 1 0) 0xD8)
+
+-- what seven bytes hold beside a transmit ID's: ".. our receive ID low and high, our transmit ID low and high, 01"; "bits 2-0 belong to the ID", and the other bits of the high bytes are 0
+unfoldable pub restInForm : (receive : ℕ) → List ℕ → Bool
+restInForm receive s = ltb (getD s 3 0) 8 && eqb (idOf (getD s 2 0) (getD s 3 0)) receive && ltb (getD s 5 0) 8 && eqb (getD s 6 0) 0x01
+
+-- the transmit ID that a D0 names: "The Channel ID (ChId) is added to the Channel offset" (001, 5.1.2.4)
+unfoldable pub namedId : Profile → List ℕ → ℕ
+namedId p s = p .offset + (if p .short then getD s 2 0 else idOf (getD s 4 0) (getD s 5 0))
+
+-- D0, with that ID in the profile's range
+unfoldable pub isPositive : Profile → (receive : ℕ) → List ℕ → Bool
+isPositive p receive s = isReply p s && eqb (getD s 1 0) 0xD0 && (p .short || restInForm receive s) && not (isOutside (p .transmits) (namedId p s))
 
 -- ---- a frame arrives: the conditions
 
--- row 3, "another CAN ID": "0x200 + unit until D0, then our receive ID"
+-- row 3, "another CAN ID": "0x200 + unit until D0, then our receive ID", the profile saying which number stands for 0x200
 unfoldable pub otherId : Connection → ℕ → Bool
-otherId c id = not (eqb id (if isRequesting c then 0x200 + c .settings .unit else c .end .receive))
+otherId c id = not (eqb id (if isRequesting c then c .profile .reply + c .settings .unit else c .end .receive))
 
--- row 1, "badly formed": while the D0 is awaited no reply, and then no telegram
+-- "no test .. and no break": "A3 and A4 are answer 1 there" (02, request 10), at 8 bytes too
+unfoldable pub isMissing : Profile → List ℕ → Bool
+isMissing p s = (isTest s || isBreak s) && not (p .tests)
+
+-- row 1, "badly formed": while the D0 is awaited no reply, and then no telegram, or one that the profile does not have
 abbrev pub badForm : Connection → List ℕ → Bool
-badForm c s = if isRequesting c then not (isRefusal s || isPositive (c .settings .receive) s) else not (isTelegram s)
+badForm c s =
+    (let p = c .profile in
+    if isRequesting c then not (isRefusal p s || isPositive p (c .settings .receive) s) else isMissing p s || not (isTelegram s))
 
 -- "A reply before its request was ever handed over gives 4"
 abbrev pub tooEarly : Connection → List ℕ → Bool
@@ -56,14 +72,14 @@ kindNotDue c s = tooEarly c s || notAwaited c s || isSetup s || isOpen c && noTe
 
 -- row 11, "D6, D7 or D8"
 abbrev pub refused : Connection → List ℕ → Bool
-refused c s = isRequesting c && isRefusal s
+refused c s = isRequesting c && isRefusal (c .profile) s
 
 -- ---- a frame arrives: what is left
 
 -- the record after a frame answered 0: the D0's transmit ID, a disconnect, the A1 that opens, or a telegram on the open channel
 abbrev pub recordAfter : Connection → List ℕ → Connection
 recordAfter c s =
-    if isRequesting c then asking 2 (c .settings) (idOf (getD s 4 0) (getD s 5 0)) (c .settings .receive)
+    if isRequesting c then asking 2 (c .profile) (c .settings) (namedId (c .profile) s) (c .settings .receive)
     else if isDisconnect s then leavingOn (c .end .transmit)
     else if isAgreeing c then openedBy c (getD s 1 0) (getD s 4 0)
     else onChannel c (channelAfter (c .end .channel) s)
@@ -98,14 +114,18 @@ arriveSays limit c id s b =
 
 -- ---- open
 
--- "Open: 4 if not closed, then 10"
-abbrev pub openTable : Connection → Settings → Table Connection
-openTable c s =
+-- "Open: 4 if not closed, then 10", by the ranges of the profile that it names
+abbrev pub openTable : Connection → Profile → Settings → Table Connection
+openTable c p s =
     row (not (isClosed c)) 4 c
-    orElse row (not (inRange s)) 10 c
-    orElse always (plain 0) (asking 1 s 0 0)
+    orElse row (not (inRangeOf p s)) 10 c
+    orElse always (plain 0) (asking 1 p s 0 0)
 
--- what an open says and leaves
+-- what an open in a profile says and leaves
+abbrev pub openAsSays : Connection → Profile → Settings → Said × Connection
+openAsSays c p s = (openingAs c p s .told .said, openingAs c p s .connection)
+
+-- what an open that names none says and leaves
 abbrev pub openSays : Connection → Settings → Said × Connection
 openSays c s = (opening c s .told .said, opening c s .connection)
 
@@ -141,9 +161,11 @@ timeSays c n = (elapsed c n .told .said, elapsed c n .connection)
 
 -- ---- what is due
 
--- "7 bytes: unit, C0, 00, 10, receive ID low, receive ID high, 01"
-abbrev pub c0 : Settings → Payload
-c0 s = record { len = 7; bytes = s .unit ∷ 0xC0 ∷ 0x00 ∷ 0x10 ∷ s .receive % 256 ∷ s .receive / 256 % 8 ∷ 0x01 ∷ 0 ∷ [] }
+-- "7 bytes: unit, C0, 00, 10, receive ID low, receive ID high, 01"; in TP 1.6 three: unit, C0, "lower 8 bits of the CAN ID" (001, 5.1)
+abbrev pub c0 : Profile → Settings → Payload
+c0 p s =
+    if p .short then record { len = 3; bytes = s .unit ∷ 0xC0 ∷ s .receive % 256 ∷ 0 ∷ 0 ∷ 0 ∷ 0 ∷ 0 ∷ [] }
+    else record { len = 7; bytes = s .unit ∷ 0xC0 ∷ 0x00 ∷ 0x10 ∷ s .receive % 256 ∷ s .receive / 256 % 8 ∷ 0x01 ∷ 0 ∷ [] }
 
 -- "waits T_E from each hand-over"
 abbrev pub requestOut : Connection → Connection
@@ -160,7 +182,7 @@ dueTable c m =
     orElse row (isOpen c && testDue ch) 0 (hands (c .end .transmit) (single 0xA3) (onChannel c (testOut ch)))
     orElse row (isOpen c && ack .due) 0 (hands (c .end .transmit) (single (ackByte ack)) (onChannel c (ackOut ch)))
     orElse row (isClosed c && c .leaving) 0 (hands (c .end .transmit) (single 0xA8) closedRecord)
-    orElse row (isRequesting c && c .attempt .due) 0 (hands 0x200 (c0 set) (requestOut c))
+    orElse row (isRequesting c && c .attempt .due) 0 (hands (c .profile .request) (c0 (c .profile) set) (requestOut c))
     orElse row (isAgreeing c && c .attempt .due) 0 (hands (c .end .transmit) (sixBytes 0xA0 (set .block) (set .t1) (set .t3)) (requestOut c))
     orElse row (isOpen c && dataDue (ch .sender) && not (eqb (length m) (ch .sender .length))) 7 (handsNone c)
     orElse row (isOpen c && dataDue (ch .sender)) 0 (hands (c .end .transmit) (dataOf ch m) (onChannel c (dataOut ch)))

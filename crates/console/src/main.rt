@@ -12,6 +12,8 @@ use dialogue::calls::read_call;
 use dialogue::lines::read_line;
 use dialogue::numbers::Opening;
 use dialogue::numbers::read_opening;
+use dialogue::rows::Opening16;
+use dialogue::rows::read_opening_16;
 use dialogue::session::Session;
 use dialogue::session::clear;
 use dialogue::words::behind_word;
@@ -24,8 +26,10 @@ struct Console {
     session: Session,
 }
 
-// The name of the call that a connection alone has, as the number that the letters make.
+// The names of the calls that a connection alone has, as the numbers that their letters make.
 const OPEN: u64 = 0x6F70656E;
+
+const OPEN16: u64 = 0x6F70656E3136;
 
 fn main() {
     // A line, one character too many, and a CR behind it; its answer takes its place.
@@ -109,8 +113,22 @@ impl Console {
             Call::Close => self.answered(connection.close(), text),
             Call::Room(room) => self.with(session.lend(room)),
             Call::Buffer => self.with(session.show(shown(buffer, room), text)),
-            Call::Other(name) => self.opened(read_own(name, behind_word(shown(text, fill))), text),
+            Call::Other(name) => self.own(name, fill, text),
         }
+    }
+
+    // A call that a connection alone has.
+    fn own(self, name: u64, fill: usize, text: &mut [u8]) -> Console {
+        if name == OPEN {
+            let opening = read_opening(behind_word(shown(text, fill)));
+            return self.opened(opening, text);
+        }
+        if name == OPEN16 {
+            let opening = read_opening_16(behind_word(shown(text, fill)));
+            return self.opened_16(opening, text);
+        }
+        let session = self.session;
+        self.with(session.wrong(text))
     }
 
     fn opened(self, opening: Opening, text: &mut [u8]) -> Console {
@@ -119,6 +137,18 @@ impl Console {
         match opening {
             Opening::Wrong => self.with(session.wrong(text)),
             Opening::With(settings) => self.answered(connection.open(settings), text),
+        }
+    }
+
+    // The same in a row of TP 1.6.
+    fn opened_16(self, opening: Opening16, text: &mut [u8]) -> Console {
+        let connection = self.connection;
+        let session = self.session;
+        match opening {
+            Opening16::Wrong => self.with(session.wrong(text)),
+            Opening16::As { profile, settings } => {
+                self.answered(connection.open_as(profile, settings), text)
+            }
         }
     }
 
@@ -208,11 +238,4 @@ fn arrive(
         return connection.arrive(id, bytes, buffer);
     }
     connection.arrive(id, bytes, &mut buffer[..room])
-}
-
-fn read_own(name: u64, words: &[u8]) -> Opening {
-    if name != OPEN {
-        return Opening::Wrong;
-    }
-    read_opening(words)
 }

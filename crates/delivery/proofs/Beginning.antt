@@ -83,10 +83,10 @@ module _ (two : TwoEnds) (s : SystemOf two) (f : Fresh s) where
   pub fresh-seen : Seen two (two .near .receives (s .near .state)) (two .near .transmits (s .near .state)) (lineOf (s .near)) (lineOf (s .far)) s
   fresh-seen =
       record {
-        near′ = two .nearLaws .begins (s .near .state) (f .near .open′);
+        near′ = two .nearLaws .begins (s .near) (f .near);
         far′ =
             subst₂ (λ (i o : ℕ). two .FarTied i o (s .far .state) (lineOf (s .far))) (sym (f .to-far)) (f .to-near)
-            (two .farLaws .begins (s .far .state) (f .far .open′));
+            (two .farLaws .begins (s .far) (f .far));
         forward = subst (Fits (two .carried) (two .near .transmits (s .near .state))) (sym (f .forward)) tt;
         backward = subst (Fits (two .carried) (two .near .receives (s .near .state))) (sym (f .backward)) tt;
       }

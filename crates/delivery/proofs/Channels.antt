@@ -43,7 +43,7 @@ pub channel-lawful : (limit : ℕ) → Lawful limit Carried (channelEnd limit) I
 channel-lawful limit =
     record {
       kinds = λ k. k;
-      begins = λ x o. subst (λ (v : Bool). Itself 0 0 x (record { channel = x .channel; live = v })) o itself;
+      begins = λ p f. subst (λ (v : Bool). Itself 0 0 (p .state) (record { channel = p .state .channel; live = v })) (f .open′) itself;
       opens = λ e. rw (same e);
       views = λ e _. rw (same e);
       sends = send-tells limit;

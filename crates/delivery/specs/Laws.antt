@@ -9,6 +9,8 @@ use Rattle.telegram.specs.declared.kinds.Telegram.{Telegram}
 use Rattle.telegram.specs.declared.kinds.Telegram.the-variants.{Data, Ack, Test, Break, Disconnect, Setup, Accept, Malformed}
 use Rattle.delivery.specs.End.{Told, Taken, Given, End}
 use Rattle.delivery.specs.Line.{Line, lineSend, lineTake, lineTime, lineDue, lineArrive, lineBuffered}
+use Rattle.delivery.specs.System.{Party}
+use Rattle.delivery.specs.Claim.{channelOf, FreshEnd}
 
 -- the same told, and states that are tied
 pub record Tells {State : Type 0} (R : State → Line → Type 0) (r : Told State) (l : Told Line) : Type 0 where
@@ -45,8 +47,8 @@ Carried Malformed = ⊥
 pub record Lawful (limit : ℕ) (carried : Telegram → Type 0) (E : End) (Tied : (receive transmit : ℕ) → E .State → Line → Type 0) : Type 0 where
   -- the links carry no other kinds than those
   pub kinds : {k : Telegram} → carried k → Carried k
-  -- an end that is open is tied to its channel
-  pub begins : (x : E .State) → E .open′ x ≡ true → Tied (E .receives x) (E .transmits x) x (record { channel = E .channel x; live = true })
+  -- a fresh end is tied to its channel
+  pub begins : (p : Party E) → FreshEnd p → Tied (E .receives (p .state)) (E .transmits (p .state)) (p .state) (record { channel = channelOf p; live = true })
   -- tied, it is open exactly while that line is live
   pub opens : {r t : ℕ} {x : E .State} {l : Line} → Tied r t x l → E .open′ x ≡ l .live
   -- and while it is open, its channel is that one

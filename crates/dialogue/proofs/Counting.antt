@@ -6,13 +6,15 @@
 use Prim.Native.Nat.{ℕ, suc, _-_, _≤_}
 use native.Mathlib.Omega.{arith}
 use mathlib.Core.Bool.{true, false}
-use mathlib.Core.List.{List}
+use mathlib.Core.List.{List, [], _∷_, map}
 use mathlib.Core.Path.{_≡_, refl, _∙_}
-use lib.ListN.{take, drop, getD}
+use lib.ListN.{take, drop, getD, replicate}
 use mir.Syntax.{w8, w16}
 use mir.Val.{Fits}
 use Rattle.laws.proofs.Cases.{by, by-lt}
-use Rattle.settings.specs.Settings.{allowed}
+use Rattle.profile.specs.Profile.{within, tp20, drive, comfort, high, low}
+use Rattle.profile.specs.declared.Profile.{Profile}
+use Rattle.settings.specs.Settings.{allowedBy}
 use Rattle.settings.specs.declared.Settings.{Settings}
 use Rattle.text.specs.Numbers.{numberOf}
 use Rattle.text.specs.Words.{wordFrom}
@@ -85,8 +87,9 @@ module _ (s : List ℕ) (n₀ n₁ n₂ n₃ n₄ n₅ n₆ n₇ n₈ n₉ n₁�
       let a₁₁ = one-more 10 n₁₀ n₁₁ s a₁₀ e₁₁ in
       rw (e, a₁, a₂, a₃, a₄, a₅, a₆, a₇, a₈, a₉, a₁₀, a₁₁)
 
-pub is-refused : (s : Settings) → allowed (outOfRangeIf true s) ≡ false
-unfolding allowed
+-- in every profile
+pub is-refused : (s : Settings) → map (λ (p : Profile). allowedBy p (outOfRangeIf true s)) (tp20 ∷ drive ∷ comfort ∷ high ∷ low ∷ []) ≡ replicate 5 false
+unfolding allowedBy within
 is-refused s = refl
 
 pub no-more : (s : Session) (n r : ℕ) → r ≡ turnsLeft s n → r ≤ n

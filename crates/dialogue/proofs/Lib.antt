@@ -4,4 +4,5 @@ pub mod Letters
 pub mod Names
 pub mod Counting
 pub mod Sentences
+pub mod RowRules
 pub mod Worked

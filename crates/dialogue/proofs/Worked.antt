@@ -1,4 +1,4 @@
--- Worked values: the lines of a table in their own characters, what they ask for, and the lines that answer.
+-- Worked values: the lines of a table and of an opening in their own characters, what they ask for, and the lines that answer.
 use Prim.Native.Nat.{ℕ}
 use Prim.Native.String.{String}
 use mathlib.Core.Bool.{true, false}
@@ -13,14 +13,19 @@ use Rattle.text.specs.Written.{decimalBelow, pairsOf}
 use Rattle.text.specs.declared.reading.Number.{Number}
 use Rattle.text.specs.declared.reading.Number.the-variants.{Value, Bad as NoNumber}
 use Rattle.open_end.specs.Answers.{plain}
+use Rattle.profile.specs.Profile.{drive, comfort, high, low}
 use Rattle.settings.specs.Settings.{defaults}
+use Rattle.settings.specs.declared.Settings.{Settings}
 use Rattle.dialogue.specs.declared.calls.Call.{Call}
 use Rattle.dialogue.specs.declared.calls.Call.the-variants.{Nothing, Wrong, New, Frame, Time, Due, DueOf, Send, Take, Close, Room, Buffer, Other}
 use Rattle.dialogue.specs.declared.places.Asked.{Asked}
 use Rattle.dialogue.specs.declared.numbers.Opening.{Opening}
 use Rattle.dialogue.specs.declared.numbers.Opening.the-variants.{Wrong as NoOpening, With}
+use Rattle.dialogue.specs.declared.rows.Opening16.{Opening16}
+use Rattle.dialogue.specs.declared.rows.Opening16.the-variants.{Wrong as NoOpening16, As}
 use Rattle.dialogue.specs.Words.{wordAt, behindWord, lettersFrom, lettersOf, onlyWord, onlyNumber, idRead, onlyId, octetsRead, octetsInto}
-use Rattle.dialogue.specs.Numbers.{withNumber, nextNumber, afterWords, givenBy, openingOf}
+use Rattle.dialogue.specs.Numbers.{withNumber, nextNumber, afterWords, givenBy, openingWith, openingOf}
+use Rattle.dialogue.specs.Rows.{rowOf, openingAs, openingIn, opening16Of}
 use Rattle.dialogue.specs.Calls.{aloneOf, timeOf, roomOf, dueOf, sendOf, frameOf, followedOf, followedInto, callOf, callInto}
 use Rattle.dialogue.specs.Places.{placeRead, behindPlace, suits, askedWith, askedOf, askedInto}
 use Rattle.dialogue.specs.Answers.{marked, saidOf, carriedOf, toldOf, answerAt, saidsOf, eachOf, ownerOf}
@@ -81,8 +86,37 @@ openings (s ∷ more) = openingOf (ascii s) ∷ openings more
 -- none, eleven words, too many, too few, and one that is no number
 pub opening-worked : openings ("" ∷ "768 1 8 138 50 1000 10 5 1000 10000 5" ∷ "768 1 8 138 50 1000 10 5 1000 10000 5 0" ∷ "768 1 8" ∷ "768 x 8 138 50 1000 10 5 1000 10000 5" ∷ [])
     ≡ With defaults ∷ With defaults ∷ replicate 3 NoOpening
-unfolding openingOf givenBy afterWords nextNumber withNumber wordAt numberOf numberFrom digitOf runOf belongs
+unfolding openingWith givenBy afterWords nextNumber withNumber wordAt numberOf numberFrom digitOf runOf belongs
 opening-worked = refl
+
+-- ---- an opening in TP 1.6
+
+abbrev openings16 : List String → List Opening16
+openings16 [] = []
+openings16 (s ∷ more) = opening16Of (ascii s) ∷ openings16 more
+
+-- a receive ID and a unit, and else the defaults of 02, 10
+abbrev with-two : (receive unit : ℕ) → Settings
+with-two receive unit = record { receive = receive; unit = unit; block = 8; t1 = 0x8A; t3 = 0x4A; «t_e» = 1000; mntc = 20; mntb = 5; «t_wait» = 500; «t_ct» = 10000; mnct = 5 }
+
+-- the rows alone: the lowest unit and receive ID of each
+pub rows-worked : openings16 ("drive" ∷ "comfort" ∷ "high" ∷ " low " ∷ [])
+    ≡ As drive (with-two 0x740 0x00) ∷ As comfort (with-two 0x300 0x00) ∷ As high (with-two 0x4E0 0x30) ∷ As low (with-two 0x690 0x30) ∷ []
+unfolding opening16Of openingIn openingAs rowOf openingWith wordAt behindWord lettersOf lettersFrom runOf belongs
+rows-worked = refl
+
+-- with eleven words, in a row's ranges or not; a number too large for its setting is a receive ID that no row has
+pub row-numbers-worked : openings16 ("drive 1983 31 8 138 74 1000 20 5 500 10000 5" ∷ "low 768 1 8 138 74 1000 20 5 500 10000 5" ∷ "comfort 768 256 8 138 74 1000 20 5 500 10000 5" ∷ "drive 1983 31 15 139 129 10000 0 255 999 1 2" ∷ [])
+    ≡ As drive (with-two 0x7BF 0x1F) ∷ As low (with-two 0x300 0x01) ∷ As comfort (with-two 0xFFFF 0)
+    ∷ As drive (record { receive = 1983; unit = 31; block = 15; t1 = 139; t3 = 129; «t_e» = 10000; mntc = 0; mntb = 255; «t_wait» = 999; «t_ct» = 1; mnct = 2 }) ∷ []
+unfolding opening16Of openingIn openingAs rowOf openingWith givenBy afterWords nextNumber withNumber wordAt behindWord lettersOf lettersFrom numberOf numberFrom digitOf runOf belongs
+row-numbers-worked = refl
+
+-- too few words, too many, one that is no number, and words that are no row
+pub no-row-worked : openings16 ("drive 1 2" ∷ "drive 1856 0 8 138 74 1000 20 5 500 10000 5 0" ∷ "drive x 0 8 138 74 1000 20 5 500 10000 5" ∷ "drive low" ∷ [])
+    ++ openings16 ("drives" ∷ "driv" ∷ "Drive" ∷ "tp20" ∷ "" ∷ "1856 0 8 138 74 1000 20 5 500 10000 5" ∷ "infotainment" ∷ []) ≡ replicate 11 NoOpening16
+unfolding opening16Of openingIn openingAs rowOf openingWith givenBy afterWords nextNumber withNumber wordAt behindWord lettersOf lettersFrom numberOf numberFrom digitOf runOf belongs
+no-row-worked = refl
 
 -- ---- answers
 

@@ -88,6 +88,10 @@ givenBy s = record {
   numbers = afterWords 11 s;
 }
 
--- the settings of an opening: the defaults where no word is given, and else those that all the words give
-unfoldable pub openingOf : List ℕ → Opening
-openingOf s = if eqb (length s) 0 then With defaults else if areAll (givenBy s .numbers) s then With (givenBy s .settings) else Wrong
+-- the settings of an opening: given ones where no word is given, and else those that all the words give
+unfoldable pub openingWith : Settings → List ℕ → Opening
+openingWith d s = if eqb (length s) 0 then With d else if areAll (givenBy s .numbers) s then With (givenBy s .settings) else Wrong
+
+-- with the defaults of TP 2.0
+abbrev pub openingOf : List ℕ → Opening
+openingOf s = openingWith defaults s

@@ -1,6 +1,6 @@
 // Settings as words, one decimal number each. A number too large for its setting is out of range like any other.
 ghost use mathlib.Core.Path.{_≡_};
-ghost use Rattle.dialogue.specs.Numbers.{noNumbers, withNumber, withBeyond, nextNumber, areAll, outOfRangeIf, givenBy, openingOf};
+ghost use Rattle.dialogue.specs.Numbers.{noNumbers, withNumber, withBeyond, nextNumber, areAll, outOfRangeIf, givenBy, openingWith, openingOf};
 use settings::Settings;
 use text::reading;
 use text::reading::Number;
@@ -139,8 +139,15 @@ pub fn settings(words: &[u8]) -> Given
 pub fn read_opening(words: &[u8]) -> Opening
     ensures { λ r. ⌜ r ≡ openingOf (now (words .entry)) ⌝ }
 {
+    opening_with(Settings::DEFAULT, words)
+}
+
+// The same with other defaults.
+pub(crate) fn opening_with(defaults: Settings, words: &[u8]) -> Opening
+    ensures { λ r. ⌜ r ≡ openingWith defaults (now (words .entry)) ⌝ }
+{
     if words.len() == 0 {
-        return Opening::With(Settings::DEFAULT);
+        return Opening::With(defaults);
     }
     let given = settings(words);
     let settings = given.settings;

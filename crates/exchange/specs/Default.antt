@@ -36,7 +36,7 @@ pub record Blocks (calls : List After) (low high block : ℕ) : Type 0 where
 -- from the closed record, whatever buffer is lent, whatever transmit ID of eleven bits the D0 gives, and whatever block size from 1 to 15 and times
 -- the A1 names
 abbrev pub DefaultBlocks : Type 0
-DefaultBlocks = (b : List ℕ) (low high block t1 t2 t3 t4 : ℕ) → high < 8 → 1 ≤ block → block ≤ 15 → Blocks (run closedRecord b (opens low high block t1 t2 t3 t4)) low high block
+DefaultBlocks = (b : List ℕ) (low high block t1 t2 t3 t4 : ℕ) → low + 256 * high < 0x800 → 1 ≤ block → block ≤ 15 → Blocks (run closedRecord b (opens low high block t1 t2 t3 t4)) low high block
 
 -- "a unit that names 15 gets blocks of 8": a message of 26 frames to it, with the Acks that it gives
 abbrev pub message : List ℕ

@@ -15,6 +15,7 @@ use connection::OPEN;
 use connection::attempt::Attempt;
 use open_end::OpenEnd;
 use open_end::shown;
+use profile::Profile;
 use sender::Terms;
 use settings::Settings;
 use telegram::kinds::Parameters;
@@ -265,6 +266,7 @@ fn opened(receive: u16, transmit: u16) -> Connection
         phase: OPEN,
         leaving: false,
         settings,
+        profile: Profile::TP20,
         attempt: Attempt {
             wait: 0,
             due: false,

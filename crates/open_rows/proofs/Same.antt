@@ -2,7 +2,7 @@
 use Prim.Native.Nat.{ℕ, _+_, _*_, _/_, _%_, _^_, min}
 use native.Mathlib.Nat.{mul-comm}
 use native.Mathlib.Omega.{arith}
-use mathlib.Core.Bool.{Bool, true, false, _&&_}
+use mathlib.Core.Bool.{Bool, true, false, not, _&&_}
 use mathlib.Core.List.{List, _∷_}
 use mathlib.Core.Path.{_≡_, refl, sym, _∙_}
 use lib.ListN.{length, take, drop, getD, length-take}
@@ -15,7 +15,10 @@ use Rattle.telegram.specs.Time.{tenthsOf}
 use Rattle.telegram.specs.Outgoing.{payloadOf}
 use Rattle.telegram.specs.Kinds.{top, bit4, bit5, badBlock, fields, ownOrFilled}
 use Rattle.telegram.specs.Cutting.{framesOf, headerOf, streamOf, lastAt, asksAt, frameAt}
-use Rattle.settings.specs.Settings.{allowed}
+use Rattle.profile.specs.Profile.{within}
+use Rattle.profile.specs.declared.Range.{Range}
+use Rattle.profile.specs.declared.Profile.{Profile}
+use Rattle.settings.specs.Settings.{waitAllowed, allowedBy, used}
 use Rattle.settings.specs.Agreed.{agreed}
 use Rattle.settings.specs.declared.Settings.{Settings}
 use Rattle.sender.specs.Sending.{distance, firstNumber, frameDue, advanced}
@@ -25,8 +28,8 @@ use Rattle.receiver.specs.declared.Receiver.{Receiver}
 use Rattle.channel.specs.Opened.{fresh, withSender, restarted, testDue as channelTestDue}
 use Rattle.channel.specs.declared.Channel.{Channel}
 use Rattle.open_rows.specs.Records.{freshChannel, agreedBy, tenths, smaller}
-use Rattle.open_rows.specs.Rows.{blockOut, isData, asksAck, isLast, numberIn, isAck, isReady, ahead, carriedBy, inRange, testDue, zeroFilled, dataDue, isEnd, withAR, firstByte, dataOf, dataOut, writtenAt}
-use Rattle.open_rows.proofs.Words.{below-40, below-20, upper-half, ack-byte, ready-byte, ahead-by, number-by, acked-to, carried, left-behind, multiple, some-left, larger-max, not-above, below-next, below-not, neither, unit-pow, zeros-behind}
+use Rattle.open_rows.specs.Rows.{blockOut, isData, asksAck, isLast, numberIn, isAck, isReady, ahead, carriedBy, isOutside, waitOut, inRangeOf, testDue, zeroFilled, dataDue, isEnd, withAR, firstByte, dataOf, dataOut, writtenAt}
+use Rattle.open_rows.proofs.Words.{below-40, below-20, upper-half, ack-byte, ready-byte, ahead-by, number-by, acked-to, carried, left-behind, multiple, some-left, larger-max, not-above, below-next, below-not, neither, unbound, unit-pow, zeros-behind}
 
 -- ---- bytes
 
@@ -60,17 +63,29 @@ module _ (s : List ℕ) where
 
 -- ---- settings and time codes
 
--- the settings' ranges
-pub range-same : (s : Settings) → inRange s ≡ allowed s
-unfolding inRange allowed badBlock
-range-same s =
-    rw (below-next (s .receive) 0x7FF, below-next (s .unit) 0xEF, below-next (s .«t_e») 10000, some-left (s .block), below-not (s .block) 16, some-left (s .t1 % 64))
-    (rw (neither (leb (s .receive) 0x7FF && leb (s .unit) 0xEF) (eqb (s .block) 0) (ltb 15 (s .block))))
-
 -- time codes
 pub tenths-same : (code : ℕ) → tenths code ≡ tenthsOf code
 unfolding tenths tenthsOf
 tenths-same code = rw (unit-pow (code / 64)) (mul-comm (10 ^ (code / 64)) (code % 64))
+
+-- a number in a range
+pub outside-same : (r : Range) (n : ℕ) → not (isOutside r n) ≡ within r n
+unfolding isOutside within
+outside-same r n = rw (not-above n (r .least), not-above (r .most) n, neither true (ltb n (r .least)) (ltb (r .most) n))
+
+-- T_WAIT between T3 and T1
+wait-same : (p : Profile) (s : Settings) → not (waitOut p s) ≡ waitAllowed p s
+unfolding waitOut
+wait-same p s =
+    rw (tenths-same (s .t3), tenths-same (s .t1), below-not (tenthsOf (s .t3)) (s .«t_wait»), below-not (s .«t_wait») (tenthsOf (s .t1)))
+    (unbound (p .bounded) (leb (s .«t_wait») (tenthsOf (s .t3))) (leb (tenthsOf (s .t1)) (s .«t_wait»)))
+
+-- the settings' ranges
+pub range-same : (p : Profile) (s : Settings) → inRangeOf p s ≡ allowedBy p s
+unfolding inRangeOf allowedBy badBlock
+range-same p s =
+    rw (outside-same (p .receives) (s .receive), outside-same (p .units) (s .unit), below-next (s .«t_e») 10000, some-left (s .block), below-not (s .block) 16, some-left (s .t1 % 64), tenths-same (s .t3), ← not-above (tenthsOf (s .t3)) (p .«least_t3»), wait-same p s)
+    (rw (neither (within (p .receives) (s .receive) && within (p .units) (s .unit)) (eqb (s .block) 0) (ltb 15 (s .block))))
 
 -- the smaller block size
 pub smaller-same : (m n : ℕ) → smaller m n ≡ min m n
@@ -78,8 +93,8 @@ unfolding smaller
 smaller-same m n = smaller-min m n
 
 -- what an A0 or A1 of these bytes opens
-pub opened-same : (s : Settings) (b : List ℕ) → freshChannel (agreedBy s (getD b 1 0) (getD b 4 0)) ≡ fresh (agreed s (fields b))
-opened-same s b = rw (smaller-same (s .block) (getD b 1 0), tenths-same (s .t1), tenths-same (getD b 4 0))
+pub opened-same : (p : Profile) (s : Settings) (b : List ℕ) → freshChannel (agreedBy (p .tests) s (getD b 1 0) (getD b 4 0)) ≡ fresh (agreed (used p s) (fields b))
+opened-same p s b = rw (smaller-same (s .block) (getD b 1 0), tenths-same (s .t1), tenths-same (getD b 4 0))
 
 -- ---- sending
 

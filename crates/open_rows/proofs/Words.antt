@@ -89,6 +89,13 @@ refusal-byte b = same-test _ _ there back
         either (eqb b 0xD6) (λ x. rw (eqb-true b 0xD6 x)) (λ x.
         either (eqb b 0xD7) (λ y. rw (eqb-true b 0xD7 y)) (λ y. rw (eqb-true b 0xD8 (rw (x, y) at e))))
 
+-- from a byte up to itself
+pub only-byte : (b n : ℕ) → (leb n b && leb b n) ≡ eqb b n
+only-byte b n =
+    same-test _ _
+    (λ e. let r = both (leb n b) (leb b n) e in let low = leb-true n b (r .0) in let high = leb-true b n (r .1) in eq-eqb b n (omega arith))
+    (λ e. let z = eqb-true b n e in rw (le-leb n b (omega arith), le-leb b n (omega arith)))
+
 -- ---- numbers modulo 16
 
 -- how far a number lies ahead
@@ -163,6 +170,12 @@ neither true true q = refl
 neither true false q = refl
 neither false true q = refl
 neither false false q = refl
+
+-- what need not hold, or neither of two
+pub unbound : (must p q : Bool) → not (must && (p || q)) ≡ (not must || (not p && not q))
+unbound true true q = refl
+unbound true false q = refl
+unbound false p q = refl
 
 -- at most eight bytes, with zeros behind them
 pub zeros-behind : (s : List ℕ) → length s ≤ 8 → s ++ replicate (8 - length s) 0 ≡ take 8 (s ++ replicate 8 0)

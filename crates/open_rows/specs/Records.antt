@@ -1,10 +1,11 @@
 -- The records of an open channel, field by field: just opened, and what it is to change one part of one; the settings' defaults,
--- and what two ends agree on.
+-- the numbers of TP 2.0, and what two ends agree on.
 use Prim.Native.Nat.{ℕ, zero, suc, _*_, _/_, _%_}
-use mathlib.Core.Bool.{Bool, false}
+use mathlib.Core.Bool.{Bool, true, false}
 use lib.Dec.{ltb}
 use Rattle.laws.specs.If.{if_then_else_}
 use Rattle.telegram.specs.declared.cutting.Message.{Message}
+use Rattle.profile.specs.declared.Profile.{Profile}
 use Rattle.settings.specs.declared.Settings.{Settings}
 use Rattle.sender.specs.declared.Terms.{Terms}
 use Rattle.sender.specs.declared.Sender.{Sender}
@@ -41,6 +42,22 @@ abbrev pub defaults : Settings
 defaults =
     record { receive = 0x300; unit = 0x01; block = 8; t1 = 0x8A; t3 = 0x32; «t_e» = 1000; mntc = 10; mntb = 5; «t_wait» = 1000; «t_ct» = 10000; mnct = 5 }
 
+-- TP 2.0: "From CAN ID 0x200"; "The reply comes from 0x200 + unit"; IDs of eleven bits, named whole, and units 0x00..0xEF; opening frames of seven bytes; tests and breaks; T3 and T_WAIT free
+abbrev pub tp20Numbers : Profile
+tp20Numbers =
+    record {
+      request = 0x200;
+      reply = 0x200;
+      offset = 0;
+      units = record { least = 0x00; most = 0xEF };
+      receives = record { least = 0; most = 0x7FF };
+      transmits = record { least = 0; most = 0x7FF };
+      short = false;
+      tests = true;
+      «least_t3» = 0;
+      bounded = false;
+    }
+
 -- "Bits 7-6: unit 1, 10, 100 or 1,000 tenths"; above a byte it goes on in the same way
 unfoldable pub unit : ℕ → ℕ
 unit zero = 1
@@ -57,12 +74,12 @@ tenths code = unit (code / 64) * (code % 64)
 unfoldable pub smaller : ℕ → ℕ → ℕ
 smaller m n = if ltb n m then n else m
 
--- what is agreed by an A0 or A1 of this block size and T3: our own T1, the peer's T3, and the fields of our own A0 and A1
-abbrev pub agreedBy : Settings → (block t3 : ℕ) → Parameters
-agreedBy s block t3 =
+-- what is agreed by an A0 or A1 of this block size and T3: our own T1, the peer's T3, and the fields of our own A0 and A1; "no test (those settings lie unused)" (02, request 10): without tests the interval is 0
+abbrev pub agreedBy : (tests : Bool) → Settings → (block t3 : ℕ) → Parameters
+agreedBy tests s block t3 =
     record {
       terms = record { block = smaller (s .block) block; t1 = tenths (s .t1); t3 = tenths t3; repeats = s .mntb; «t_wait» = s .«t_wait» };
-      interval = s .«t_ct»;
+      interval = if tests then s .«t_ct» else 0;
       allowed = s .mnct;
       own = record { block = s .block; t1 = s .t1; t3 = s .t3 };
     }

@@ -9,6 +9,8 @@ use lib.Dec.{ltb, leb, eqb}
 use Rattle.laws.specs.If.{if_then_else_}
 use Rattle.telegram.specs.declared.cutting.Message.{Message}
 use Rattle.telegram.specs.declared.payload.Payload.{Payload}
+use Rattle.profile.specs.declared.Range.{Range}
+use Rattle.profile.specs.declared.Profile.{Profile}
 use Rattle.settings.specs.declared.Settings.{Settings}
 use Rattle.sender.specs.declared.Sender.{Sender}
 use Rattle.receiver.specs.declared.Standing.{Standing}
@@ -17,7 +19,7 @@ use Rattle.receiver.specs.declared.Receiver.{Receiver}
 use Rattle.channel.specs.declared.Tests.{Tests}
 use Rattle.channel.specs.declared.Channel.{Channel}
 use Rattle.open_end.specs.declared.Frame.{Frame}
-use Rattle.open_rows.specs.Records.{noneReceived, channelOf, onReceiver}
+use Rattle.open_rows.specs.Records.{noneReceived, tenths, channelOf, onReceiver}
 
 -- ---- the kinds of frame, by their bytes
 
@@ -290,11 +292,20 @@ bufferAfter ch s b =
 
 -- ---- settings
 
--- row 10, "a setting out of range": receive ID 0..0x7FF, unit 0x00..0xEF, block size 1..15, T1's scale not 0, T_E 1..10,000, T_WAIT from 1; the others are free in their widths
-unfoldable pub inRange : Settings → Bool
-inRange s =
-    ltb (s .receive) 0x800 && ltb (s .unit) 0xF0 && ltb 0 (s .block) && ltb (s .block) 16
+-- "a setting outside is answer 10, an ID in a reply answer 1" (02, request 10): below a range's least number or above its most
+unfoldable pub isOutside : Range → ℕ → Bool
+isOutside r n = ltb n (r .least) || ltb (r .most) n
+
+-- "a T_WAIT not strictly between our own T3 and T1 settings is answer 10" (02, request 10), where the profile bounds it
+unfoldable pub waitOut : Profile → Settings → Bool
+waitOut p s = p .bounded && (leb (s .«t_wait») (tenths (s .t3)) || leb (tenths (s .t1)) (s .«t_wait»))
+
+-- row 10, "a setting out of range": receive ID and unit as the profile has them, block size 1..15, T1's scale not 0, T_E 1..10,000, T_WAIT from 1; T3 not below the profile's least ("as is a T3 setting below 10 ms"); the others are free in their widths
+unfoldable pub inRangeOf : Profile → Settings → Bool
+inRangeOf p s =
+    not (isOutside (p .receives) (s .receive)) && not (isOutside (p .units) (s .unit)) && ltb 0 (s .block) && ltb (s .block) 16
     && ltb 0 (s .t1 % 64) && ltb 0 (s .«t_e») && ltb (s .«t_e») 10001 && ltb 0 (s .«t_wait»)
+    && not (ltb (tenths (s .t3)) (p .«least_t3»)) && not (waitOut p s)
 
 -- ---- time passes
 

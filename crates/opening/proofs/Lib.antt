@@ -1,2 +1,4 @@
+pub mod Elements
 pub mod RoundTrip
 pub mod Rules
+pub mod ShortRules

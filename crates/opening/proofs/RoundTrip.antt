@@ -8,6 +8,7 @@ use lib.ListN.{length}
 use borrow.Author.Tests.{lt-ltb, eq-eqb}
 use Rattle.telegram.specs.Outgoing.{bytesOf}
 use Rattle.opening.specs.Opening.{lowOf, highOf, idOf, clear, requestOf, replyOf, requestRead, replyRead, refusal}
+use Rattle.opening.specs.Short.{shortRequestOf, shortReplyOf, shortRequestRead, shortReplyRead}
 use Rattle.opening.specs.declared.Reply.the-variants.{Positive, Refused}
 use Rattle.opening.specs.declared.Request.the-variants.{Open}
 
@@ -37,3 +38,21 @@ refused-read op r t own h = rw h
 -- requests and replies have seven bytes
 pub opening-length : (u r op t : ℕ) → (length (bytesOf (requestOf u r)) ≡ 7) × (length (bytesOf (replyOf op r t)) ≡ 7)
 opening-length u r op t = (refl, refl)
+
+-- ---- the frames of TP 1.6: read, they give back the unit, the opcode and the low byte of the ID
+
+pub short-request-read : (u r : ℕ) → shortRequestRead (bytesOf (shortRequestOf u r)) ≡ Open u (r % 256)
+unfolding shortRequestRead
+short-request-read u r = refl
+
+pub short-positive-read : (t : ℕ) → shortReplyRead (bytesOf (shortReplyOf 0xD0 t)) ≡ Positive (t % 256)
+unfolding shortReplyRead
+short-positive-read t = refl
+
+pub short-refused-read : (t : ℕ) → shortReplyRead (bytesOf (shortReplyOf 0xD8 t)) ≡ Refused 0xD8
+unfolding shortReplyRead
+short-refused-read t = refl
+
+-- "a fixed length of 3 data bytes"
+pub short-length : (u r op t : ℕ) → (length (bytesOf (shortRequestOf u r)) ≡ 3) × (length (bytesOf (shortReplyOf op t)) ≡ 3)
+short-length u r op t = (refl, refl)

@@ -19,6 +19,7 @@ use Rattle.opening.specs.declared.Reply.{Reply}
 use Rattle.opening.specs.declared.Reply.the-variants.{Positive, Refused, Malformed as NoReply}
 use Rattle.opening.specs.declared.Request.{Request}
 use Rattle.opening.specs.declared.Request.the-variants.{Open, Malformed as NoRequest}
+use Rattle.opening.proofs.Elements.{counted}
 use Rattle.opening.proofs.RoundTrip.{request-read, positive-read}
 
 -- IDs
@@ -61,25 +62,13 @@ refusal-exactly o = (one, refuses)
         either (eqb o 0xD6) (λ a. rw a) λ a.
         either (eqb o 0xD7) (λ b. rw (a, b)) λ b. let x = eqb-false o 0xD6 a in let y = eqb-false o 0xD7 b in rw (a, b) (eq-eqb o 0xD8 (omega arith))
 
--- seven elements, one by one
-just-seven : (s : List ℕ) → length s ≡ 7 → s ≡ getD s 0 0 ∷ getD s 1 0 ∷ getD s 2 0 ∷ getD s 3 0 ∷ getD s 4 0 ∷ getD s 5 0 ∷ getD s 6 0 ∷ []
-just-seven (a ∷ b ∷ c ∷ d ∷ e ∷ f ∷ g ∷ []) h = refl
-just-seven [] h = absurd (omega arith)
-just-seven (a ∷ []) h = absurd (omega arith)
-just-seven (a ∷ b ∷ []) h = absurd (omega arith)
-just-seven (a ∷ b ∷ c ∷ []) h = absurd (omega arith)
-just-seven (a ∷ b ∷ c ∷ d ∷ []) h = absurd (omega arith)
-just-seven (a ∷ b ∷ c ∷ d ∷ e ∷ []) h = absurd (omega arith)
-just-seven (a ∷ b ∷ c ∷ d ∷ e ∷ f ∷ []) h = absurd (omega arith)
-just-seven (a ∷ b ∷ c ∷ d ∷ e ∷ f ∷ g ∷ i ∷ s) h = absurd (omega arith)
-
--- the same, of what each was found to be
+-- seven bytes, of what each was found to be
 seven : {s : List ℕ} {a b c d e f g : ℕ} → length s ≡ 7 → getD s 0 0 ≡ a → getD s 1 0 ≡ b → getD s 2 0 ≡ c → getD s 3 0 ≡ d → getD s 4 0 ≡ e → getD s 5 0 ≡ f → getD s 6 0 ≡ g
     → s ≡ a ∷ b ∷ c ∷ d ∷ e ∷ f ∷ g ∷ []
-seven {s} l p q r t u v w = just-seven s l ∙ rw (p, q, r, t, u, v, w)
+seven {s} l p q r t u v w = counted s l ∙ rw (p, q, r, t, u, v, w)
 
 -- what a test joined by "and" says of its parts
-ruleset tests = (and-first, and-second, eqb-true)
+pub ruleset tests = (and-first, and-second, eqb-true)
 
 module _ (s : List ℕ) (bytes : Bytes s) where
   -- what passes the test of a request has its form

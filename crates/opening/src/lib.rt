@@ -1,8 +1,10 @@
-// Opening frames, both ways: the C0 request and the replies D0, D6, D7, D8.
+// Opening frames, both ways: the C0 request and the replies D0, D6, D7, D8; those of TP 1.6 in `short`.
 // Tests joined by `&` are all made, as in the definitions: none guards another.
 ghost use mathlib.Core.Path.{_≡_};
 ghost use Rattle.opening.specs.Opening.{idOf, requestOf, replyOf, requestRead, replyRead};
 use telegram::payload::Payload;
+
+pub mod short;
 
 // The CAN ID of every request; the unit answers on this ID and its own number.
 pub const REQUEST_ID: u16 = 0x200;

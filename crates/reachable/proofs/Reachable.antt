@@ -7,11 +7,16 @@ use mathlib.Core.Logic.{_≢_, _⊎_, inl, inr}
 use mathlib.Core.Path.{_≡_, refl, sym, ap, _∙_}
 use lib.ListN.{length, getD}
 use borrow.Author.Tests.{le-ltb}
-use Rattle.laws.proofs.Cases.{either}
+use Rattle.laws.proofs.Cases.{by, either}
 use Rattle.telegram.specs.Outgoing.{bytesOf}
 use Rattle.telegram.specs.Kinds.{ackOf}
 use Rattle.telegram.specs.Cutting.{headerOf, asksAt, lastAt, frameAt}
 use Rattle.telegram.specs.declared.payload.Payload.{Payload}
+use Rattle.profile.specs.Profile.{tp20}
+use Rattle.profile.specs.Opening.{requestFor}
+use Rattle.profile.specs.declared.Profile.{Profile}
+use Rattle.settings.specs.Settings.{defaults, used}
+use Rattle.settings.specs.declared.Settings.{Settings}
 use Rattle.sender.specs.declared.Sender.{Sender}
 use Rattle.sender.specs.declared.Handed.{Handed}
 use Rattle.sender.specs.declared.Handing.the-variants.{Frame}
@@ -26,10 +31,10 @@ use Rattle.channel.proofs.Handing.{DataTurn, DueOutcome, accept-goes, test-goes
 use Rattle.open_end.specs.OpenEnd.{noChannel, frameOn, dueAt, takenAt}
 use Rattle.connection.specs.declared.Connection.{Connection}
 use Rattle.connection.specs.Calls.{closedDue, requestDue, openDue, dueOf, openTaken, takenBy}
-use Rattle.reachable.specs.Reachable.{Tally, start, Bounded, Agreed, Ours, Sends, Receives, Tested, Framed, Untested, Holds, ReachableHolds}
+use Rattle.reachable.specs.Reachable.{ElevenBits, Tally, start, Bounded, Agreed, Ours, Sends, Receives, Tested, Framed, Untested, Holds, ReachableHolds, ProfilesFit}
 use Rattle.reachable.proofs.Windows.{kept-sends, kept-due}
 use Rattle.reachable.proofs.Channels.{none-declared, nothing-stands, took-reports, Testing, none-out, one-waits, one-again, testing-tested, none-tested, untested-due}
-use Rattle.reachable.proofs.Stages.{due-now, awaited, Stage, at-rest, leaving, requesting, agreeing, talking, stage-few, run-stage}
+use Rattle.reachable.proofs.Stages.{due-now, awaited, Fits, eleven-id, Stage, at-rest, leaving, requesting, agreeing, talking, stage-few, run-stage}
 
 -- ---- the parts that no call of a closed or opening record touches
 
@@ -58,14 +63,18 @@ empty-tested = record { unanswered = zero-le; again = λ e. absurd (false≢true
 
 -- ---- bounds
 
+-- our receive ID has eleven bits
+own-id : {p : Profile} {s : Settings} → Fits p s → s .receive < 0x800
+own-id f = let most = f .eleven .receives in let inside = f .ranges .receive .1 in omega arith
+
 stage-bounded : {limit : ℕ} {t : Tally} {c : Connection} → Stage limit t c → Bounded c
-stage-bounded (at-rest f) = record { phase = zero-le; transmit = omega arith; receive = omega arith; repeats = zero-le; own = λ h. absurd (omega arith) }
-stage-bounded (leaving f x) = record { phase = zero-le; transmit = x; receive = omega arith; repeats = zero-le; own = λ h. absurd (omega arith) }
-stage-bounded (requesting s (due-now l)) = record { phase = omega arith; transmit = omega arith; receive = omega arith; repeats = l; own = λ h. absurd (omega arith) }
-stage-bounded (requesting s (awaited l w)) = record { phase = omega arith; transmit = omega arith; receive = omega arith; repeats = l; own = λ h. absurd (omega arith) }
-stage-bounded (agreeing s k (due-now l) x) = record { phase = omega arith; transmit = x; receive = omega (arith, s .receive); repeats = l; own = λ _. refl }
-stage-bounded (agreeing s k (awaited l w) x) = record { phase = omega arith; transmit = x; receive = omega (arith, s .receive); repeats = l; own = λ _. refl }
-stage-bounded (talking s k l x o) = record { phase = omega arith; transmit = x; receive = omega (arith, s .receive); repeats = zero-le; own = λ _. refl }
+stage-bounded (at-rest f) = record { phase = zero-le; transmit = omega arith; receive = omega arith; repeats = zero-le; own = λ h. absurd (omega arith); ranges = λ h. absurd (omega arith) }
+stage-bounded (leaving f x) = record { phase = zero-le; transmit = x; receive = omega arith; repeats = zero-le; own = λ h. absurd (omega arith); ranges = λ h. absurd (omega arith) }
+stage-bounded (requesting s (due-now l)) = record { phase = omega arith; transmit = omega arith; receive = omega arith; repeats = l; own = λ h. absurd (omega arith); ranges = λ h. absurd (omega arith) }
+stage-bounded (requesting s (awaited l w)) = record { phase = omega arith; transmit = omega arith; receive = omega arith; repeats = l; own = λ h. absurd (omega arith); ranges = λ h. absurd (omega arith) }
+stage-bounded (agreeing s k (due-now l) x) = record { phase = omega arith; transmit = eleven-id s x; receive = own-id s; repeats = l; own = λ _. refl; ranges = λ _. (s .ranges .receive, x) }
+stage-bounded (agreeing s k (awaited l w) x) = record { phase = omega arith; transmit = eleven-id s x; receive = own-id s; repeats = l; own = λ _. refl; ranges = λ _. (s .ranges .receive, x) }
+stage-bounded (talking s k l x o) = record { phase = omega arith; transmit = eleven-id s x; receive = own-id s; repeats = zero-le; own = λ _. refl; ranges = λ _. (s .ranges .receive, x) }
 
 stage-agreed : {limit : ℕ} {t : Tally} {c : Connection} → Stage limit t c → c .phase ≡ 3 → Agreed (c .end .channel .parameters .terms)
 stage-agreed (at-rest f) e = absurd (omega arith)
@@ -74,7 +83,7 @@ stage-agreed (requesting s a) e = absurd (omega arith)
 stage-agreed (agreeing s k a x) e = absurd (omega arith)
 stage-agreed (talking s k l x o) e = o .agreed
 
-stage-ours : {limit : ℕ} {t : Tally} {c : Connection} → Stage limit t c → c .phase ≡ 3 → Ours (c .settings) (c .end .channel .parameters)
+stage-ours : {limit : ℕ} {t : Tally} {c : Connection} → Stage limit t c → c .phase ≡ 3 → Ours (used (c .profile) (c .settings)) (c .end .channel .parameters)
 stage-ours (at-rest f) e = absurd (omega arith)
 stage-ours (leaving f x) e = absurd (omega arith)
 stage-ours (requesting s a) e = absurd (omega arith)
@@ -229,17 +238,27 @@ stage-leaving (talking s k l x o) m e = absurd (false≢true e)
 
 -- ---- what is handed over
 
+-- the C0 has three bytes, or seven
+request-some : (p : Profile) (unit receive : ℕ) → 1 ≤ requestFor p unit receive .len
+unfolding requestFor
+request-some p unit receive = by (λ (x : Payload). 1 ≤ x .len) (p .short) (λ _. omega arith) (λ _. omega arith)
+
+request-most : (p : Profile) (unit receive : ℕ) → requestFor p unit receive .len ≤ 8
+unfolding requestFor
+request-most p unit receive = by (λ (x : Payload). x .len ≤ 8) (p .short) (λ _. omega arith) (λ _. omega arith)
+
 stage-framed : {limit : ℕ} {t : Tally} {c : Connection} → Stage limit t c → (m : List ℕ) → dueOf c m .given ≡ true → Framed c (dueOf c m)
 unfolding dueOf closedDue requestDue openDue dueAt frameOn
 stage-framed (at-rest f) m g = absurd (false≢true g)
 stage-framed (leaving f x) m g = record { on = inr refl; id = x; some = omega arith; most = omega arith }
-stage-framed (requesting s (due-now l)) m g = record { on = inl refl; id = omega arith; some = omega arith; most = omega arith }
+stage-framed (requesting {p = p} {s = s} f (due-now l)) m g =
+    record { on = inl refl; id = f .eleven .request; some = request-some p (s .unit) (s .receive); most = request-most p (s .unit) (s .receive) }
 stage-framed (requesting s (awaited l w)) m g = absurd (false≢true g)
-stage-framed (agreeing s k (due-now l) x) m g = record { on = inr refl; id = x; some = omega arith; most = omega arith }
+stage-framed (agreeing s k (due-now l) x) m g = record { on = inr refl; id = eleven-id s x; some = omega arith; most = omega arith }
 stage-framed (agreeing s k (awaited l w) x) m g = absurd (false≢true g)
 stage-framed (talking {ch = ch} s k l x o) m g =
     let z = due-sized ch m g in
-    rw g (record { on = inr refl; id = x; some = z .some; most = z .most })
+    rw g (record { on = inr refl; id = eleven-id s x; some = z .some; most = z .most })
 
 -- ---- with the interval 0
 
@@ -277,15 +296,31 @@ due-no-test c m none = go (frameCase (c .parameters .terms) (c .sender) m) (due-
     go f (none-goes t) = other-size _ (λ e. omega arith)
     go f (other-length t) = other-size _ (λ e. omega arith)
 
-stage-untested : {limit : ℕ} {t : Tally} {c : Connection} → Stage limit t c → c .settings .«t_ct» ≡ 0 → Untested c
+-- nor is a C0
+request-no-test : (p : Profile) (unit receive : ℕ) → bytesOf (requestFor p unit receive) ≢ 0xA3 ∷ []
+unfolding requestFor
+request-no-test p unit receive = by (λ (x : Payload). bytesOf x ≢ 0xA3 ∷ []) (p .short) (λ _. other-size _ (λ e. omega arith)) (λ _. other-size _ (λ e. omega arith))
+
+-- an interval that is not made use of is 0
+unused : (p : Profile) (s : Settings) → (p .tests ≡ false) ⊎ (s .«t_ct» ≡ 0) → used p s .«t_ct» ≡ 0
+unused p s (inl e) = rw e
+unused p s (inr e) = either (p .tests) (λ t. rw t e) (λ t. rw t)
+
+-- a closed record has TP 2.0's tests, and their default interval
+tests-there : (tp20 .tests ≡ false) ⊎ (defaults .«t_ct» ≡ 0) → ⊥
+tests-there (inl e) = true≢false e
+tests-there (inr e) = omega arith
+
+stage-untested : {limit : ℕ} {t : Tally} {c : Connection} → Stage limit t c → (c .profile .tests ≡ false) ⊎ (c .settings .«t_ct» ≡ 0) → Untested c
 unfolding dueOf closedDue requestDue openDue dueAt frameOn testDue
-stage-untested (at-rest f) z = absurd (omega arith)
-stage-untested (leaving f x) z = absurd (omega arith)
-stage-untested (requesting s (due-now l)) z = record { out = refl; again = refl; due = refl; none = λ m. other-size _ (λ e. omega arith) }
+stage-untested (at-rest f) z = absurd (tests-there z)
+stage-untested (leaving f x) z = absurd (tests-there z)
+stage-untested (requesting {p = p} {s = s} f (due-now l)) z = record { out = refl; again = refl; due = refl; none = λ m. request-no-test p (s .unit) (s .receive) }
 stage-untested (requesting s (awaited l w)) z = record { out = refl; again = refl; due = refl; none = λ m. other-size _ (λ e. omega arith) }
 stage-untested (agreeing s k (due-now l) x) z = record { out = refl; again = refl; due = refl; none = λ m. other-size _ (λ e. omega arith) }
 stage-untested (agreeing s k (awaited l w) x) z = record { out = refl; again = refl; due = refl; none = λ m. other-size _ (λ e. omega arith) }
-stage-untested (talking {ch = ch} s k l x o) z =
+stage-untested (talking {p = p} {s = s} {ch = ch} f k l x o) either′ =
+    let z = unused p s either′ in
     record {
       out = none-tested z (o .testing) .0;
       again = none-tested z (o .testing) .1;
@@ -314,3 +349,17 @@ stage-holds k =
 
 pub reachable : ReachableHolds
 reachable limit calls h = stage-holds (run-stage limit calls start h (at-rest (record { requests = zero-le; setups = zero-le })))
+
+-- and the five profiles can be opened
+eleven : {p : Profile} → p .request < 0x800 → p .receives .most < 0x800 → p .transmits .most < 0x800 → ElevenBits p
+eleven r x t = record { request = r; receives = x; transmits = t }
+
+pub profiles-fit : ProfilesFit
+profiles-fit =
+    record {
+      tp20-fits = eleven (omega arith) (omega arith) (omega arith);
+      drive-fits = eleven (omega arith) (omega arith) (omega arith);
+      comfort-fits = eleven (omega arith) (omega arith) (omega arith);
+      high-fits = eleven (omega arith) (omega arith) (omega arith);
+      low-fits = eleven (omega arith) (omega arith) (omega arith);
+    }

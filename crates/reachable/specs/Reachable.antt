@@ -10,6 +10,10 @@ use Rattle.laws.specs.If.{if_then_else_}
 use Rattle.telegram.specs.Outgoing.{bytesOf}
 use Rattle.telegram.specs.Forms.{Bytes}
 use Rattle.telegram.specs.declared.cutting.Message.{Message}
+use Rattle.profile.specs.Profile.{tp20, drive, comfort, high, low}
+use Rattle.profile.specs.Forms.{Within}
+use Rattle.profile.specs.declared.Profile.{Profile}
+use Rattle.settings.specs.Settings.{used}
 use Rattle.settings.specs.declared.Settings.{Settings}
 use Rattle.sender.specs.declared.Terms.{Terms}
 use Rattle.sender.specs.declared.Sender.{Sender}
@@ -22,13 +26,13 @@ use Rattle.channel.specs.Opened.{testDue}
 use Rattle.connection.specs.declared.Connection.{Connection}
 use Rattle.connection.specs.declared.Due.{Due}
 use Rattle.connection.specs.Record.{closedRecord}
-use Rattle.connection.specs.Calls.{opening, arrived, elapsed, dueOf, sentBy, takenBy, closed}
+use Rattle.connection.specs.Calls.{openingAs, arrived, elapsed, dueOf, sentBy, takenBy, closed}
 
 -- ---- lists of calls
 
--- open with settings; a frame arrives, lent a buffer of so many bytes; time has passed; what is due, lent a message; a message of so many bytes to send; take, lent a buffer; close
+-- open in a profile, with settings (open alone is in TP 2.0); a frame arrives, lent a buffer of so many bytes; time has passed; what is due, lent a message; a message of so many bytes to send; take, lent a buffer; close
 pub data Call : Type 0 where
-  opens : Settings → Call
+  opens : Profile → Settings → Call
   comes : (id : ℕ) → (bytes : List ℕ) → (room : ℕ) → Call
   passes : (tenths : ℕ) → Call
   asks : (message : List ℕ) → Call
@@ -36,9 +40,15 @@ pub data Call : Type 0 where
   takes : (room : ℕ) → Call
   closes : Call
 
--- a frame that arrives is of bytes
+-- the IDs that a profile names have eleven bits; those of the five profiles do
+pub record ElevenBits (p : Profile) : Type 0 where
+  pub request : p .request < 0x800
+  pub receives : p .receives .most < 0x800
+  pub transmits : p .transmits .most < 0x800
+
+-- a frame that arrives is of bytes, and an opening's IDs have eleven bits
 abbrev pub OfBytes : Call → Type 0
-OfBytes (opens s) = Unit {0}
+OfBytes (opens p s) = ElevenBits p
 OfBytes (comes id s room) = Bytes s
 OfBytes (passes n) = Unit {0}
 OfBytes (asks m) = Unit {0}
@@ -52,7 +62,7 @@ AllOfBytes (x ∷ xs) = OfBytes x × AllOfBytes xs
 
 -- the record that a call leaves
 abbrev pub step : (limit : ℕ) → Connection → Call → Connection
-step limit c (opens s) = opening c s .connection
+step limit c (opens p s) = openingAs c p s .connection
 step limit c (comes id s room) = arrived limit c id s room .connection
 step limit c (passes n) = elapsed c n .connection
 step limit c (asks m) = dueOf c m .connection
@@ -75,7 +85,7 @@ counted phase t =
 
 -- the tally that a call leaves
 abbrev pub tallied : Connection → Tally → Call → Tally
-tallied c t (opens s) = if eqb (opening c s .told .said .number) 0 then record { most = s .mntc; requests = 0; setups = 0 } else t
+tallied c t (opens p s) = if eqb (openingAs c p s .told .said .number) 0 then record { most = s .mntc; requests = 0; setups = 0 } else t
 tallied c t (comes id s room) = t
 tallied c t (passes n) = t
 tallied c t (asks m) = if dueOf c m .given then counted (c .phase) t else t
@@ -110,6 +120,8 @@ pub record Bounded (c : Connection) : Type 0 where
   pub repeats : c .attempt .repeats ≤ c .settings .mntc
   -- from the D0 on, the receive ID is that of the settings
   pub own : 2 ≤ c .phase → c .end .receive ≡ c .settings .receive
+  -- and both IDs lie in the profile's ranges
+  pub ranges : 2 ≤ c .phase → Within (c .profile .receives) (c .end .receive) × Within (c .profile .transmits) (c .end .transmit)
 
 -- what is agreed on an open connection: block size 1 to 15, T1 and T_WAIT not 0
 pub record Agreed (t : Terms) : Type 0 where
@@ -118,7 +130,7 @@ pub record Agreed (t : Terms) : Type 0 where
   pub t1 : 1 ≤ t .t1
   pub «t_wait» : 1 ≤ t .«t_wait»
 
--- and what the settings of its opening say, to the end: the block size is at most theirs, and T3 alone is the peer's
+-- and what the settings of its opening say, as far as they are made use of, to the end: the block size is at most theirs, and T3 alone is the peer's
 pub record Ours (s : Settings) (p : Parameters) : Type 0 where
   pub block : p .terms .block ≤ s .block
   pub t1 : p .terms .t1 ≡ s .t1 % 64 * 10 ^ (s .t1 / 64)
@@ -198,14 +210,14 @@ pub record Awake (c : Connection) : Type 0 where
 
 -- ---- what is handed over
 
--- a frame on ID 0x200 or the transmit ID, of eleven bits, with 1 to 8 bytes
+-- a frame on the ID of the profile's C0 (0x200 in TP 2.0) or the transmit ID, of eleven bits, with 1 to 8 bytes
 pub record Framed (c : Connection) (d : Due) : Type 0 where
-  pub on : (d .frame .id ≡ 0x200) ⊎ (d .frame .id ≡ c .end .transmit)
+  pub on : (d .frame .id ≡ c .profile .request) ⊎ (d .frame .id ≡ c .end .transmit)
   pub id : d .frame .id < 0x800
   pub some : 1 ≤ d .frame .payload .len
   pub most : d .frame .payload .len ≤ 8
 
--- "test interval .., 0 means no tests": none is out or due, and no A3 is handed over
+-- "test interval .., 0 means no tests", and a profile may have none (02, 10): none is out or due, and no A3 is handed over
 pub record Untested (c : Connection) : Type 0 where
   pub out : c .end .channel .tests .out ≡ false
   pub again : c .end .channel .tests .again ≡ false
@@ -222,7 +234,7 @@ pub record Few (t : Tally) : Type 0 where
 pub record Holds (limit : ℕ) (r : Reached) : Type 0 where
   pub bounded : Bounded (r .connection)
   pub agreed : r .connection .phase ≡ 3 → Agreed (r .connection .end .channel .parameters .terms)
-  pub ours : r .connection .phase ≡ 3 → Ours (r .connection .settings) (r .connection .end .channel .parameters)
+  pub ours : r .connection .phase ≡ 3 → Ours (used (r .connection .profile) (r .connection .settings)) (r .connection .end .channel .parameters)
   pub sends : Sends limit (r .connection .end .channel .parameters .terms) (r .connection .end .channel .sender)
   pub receives : Receives limit (r .connection .end .channel .receiver)
   -- so a take, which "reports the four flags with the message" (02, request 1), reports 0 to 15
@@ -230,11 +242,19 @@ pub record Holds (limit : ℕ) (r : Reached) : Type 0 where
   pub tested : Tested (r .connection .end .channel .parameters .allowed) (r .connection .end .channel .tests)
   pub awake : Awake (r .connection)
   pub framed : (m : List ℕ) → dueOf (r .connection) m .given ≡ true → Framed (r .connection) (dueOf (r .connection) m)
-  pub untested : r .connection .settings .«t_ct» ≡ 0 → Untested (r .connection)
+  pub untested : (r .connection .profile .tests ≡ false) ⊎ (r .connection .settings .«t_ct» ≡ 0) → Untested (r .connection)
   pub few : Few (r .tally)
   -- from the open on, the tally is that of the settings given
   pub own : 1 ≤ r .connection .phase → r .tally .most ≡ r .connection .settings .mntc
 
--- for every list of calls whose frames are of bytes, and every limit on lengths
+-- for every list of calls whose frames are of bytes and whose profiles name IDs of eleven bits, and every limit on lengths
 abbrev pub ReachableHolds : Type 0
 ReachableHolds = (limit : ℕ) (calls : List Call) → AllOfBytes calls → Holds limit (run limit start calls)
+
+-- the five profiles do
+pub record ProfilesFit : Type 0 where
+  pub tp20-fits : ElevenBits tp20
+  pub drive-fits : ElevenBits drive
+  pub comfort-fits : ElevenBits comfort
+  pub high-fits : ElevenBits high
+  pub low-fits : ElevenBits low

@@ -1,7 +1,9 @@
-// The eleven settings of an end, their ranges and their defaults.
+// The eleven settings of an end, their ranges and their defaults, by the profile.
 ghost use mathlib.Core.Path.{_≡_};
-ghost use Rattle.settings.specs.Settings.{defaults, allowed};
+ghost use Rattle.settings.specs.Settings.{defaults, defaults16, waitAllowed, allowedBy, allowed, used};
+use profile::Profile;
 use telegram::kinds::bad_block;
+use telegram::time::tenths;
 
 pub mod agreed;
 
@@ -53,32 +55,67 @@ impl Settings {
         Settings::DEFAULT
     }
 
-    // Whether every setting is in its range.
+    // The defaults of a row of TP 1.6: those above but for these five. TP 2.0 has `default`.
+    pub fn default_16(row: Profile) -> Settings
+        ensures { λ r. ⌜ r ≡ defaults16 row ⌝ }
+    {
+        let mut s = Settings::DEFAULT;
+        s.receive = row.receives.least;
+        s.unit = (row.units.least % 256) as u8;
+        s.t3 = 0x4A;
+        s.mntc = 20;
+        s.t_wait = 500;
+        s
+    }
+
+    // Whether every setting is in its range for TP 2.0.
     pub fn in_range(self) -> bool
         ensures { λ r. ⌜ r ≡ allowed self ⌝ }
     {
-        if 0x7FF < self.receive {
-            return false;
-        }
-        if 0xEF < self.unit {
-            return false;
-        }
+        self.in_range_of(Profile::tp20())
+    }
+
+    // Whether every setting is in its range for a profile. Tests joined by `&` are all made: none guards another.
+    pub fn in_range_of(self, profile: Profile) -> bool
+        ensures { λ r. ⌜ r ≡ allowedBy profile self ⌝ }
+    {
+        let receives = profile.receives;
+        let receive = receives.has(self.receive as u32);
+        let units = profile.units;
+        let unit = units.has(self.unit as u32);
         let block = self.block;
-        if bad_block(block) {
-            return false;
+        let no_block = bad_block(block);
+        let t3 = tenths(self.t3);
+        let waits = self.waits_within(profile);
+        receive
+            & unit
+            & !no_block
+            & (self.t1 % 64 != 0)
+            & (1 <= self.t_e)
+            & (self.t_e <= 10000)
+            & (1 <= self.t_wait)
+            & (profile.least_t3 as u32 <= t3)
+            & waits
+    }
+
+    // Whether T_WAIT lies between T3 and T1, if it must.
+    fn waits_within(self, profile: Profile) -> bool
+        ensures { λ r. ⌜ r ≡ waitAllowed profile self ⌝ }
+    {
+        let t_wait = self.t_wait as u32;
+        let t3 = tenths(self.t3);
+        let t1 = tenths(self.t1);
+        !profile.bounded | ((t3 < t_wait) & (t_wait < t1))
+    }
+
+    // The settings that are made use of: without tests, their interval is 0.
+    pub fn used_by(mut self, profile: Profile) -> Settings
+        ensures { λ r. ⌜ r ≡ used profile self ⌝ }
+    {
+        if profile.tests {
+            return self;
         }
-        if self.t1 % 64 == 0 {
-            return false;
-        }
-        if self.t_e < 1 {
-            return false;
-        }
-        if 10000 < self.t_e {
-            return false;
-        }
-        if self.t_wait < 1 {
-            return false;
-        }
-        true
+        self.t_ct = 0;
+        self
     }
 }

@@ -11,10 +11,11 @@ use borrow.Author.Tests.{eq-eqb, ne-eqb, eqb-true, le-leb, lt-leb}
 use Rattle.laws.proofs.Cases.{by, by-not, by-le, by-eq, either}
 use Rattle.opening.specs.declared.Reply.{Reply}
 use Rattle.opening.specs.declared.Reply.the-variants.{Positive, Refused, Malformed as NoReply}
-use Rattle.opening.specs.Opening.{replyRead}
-use Rattle.telegram.specs.Kinds.{badBlock, sorted}
+use Rattle.telegram.specs.Kinds.{badBlock}
 use Rattle.telegram.specs.declared.kinds.Telegram.{Telegram}
 use Rattle.telegram.specs.declared.kinds.Telegram.the-variants.{Data, Ack, Test, Break, Disconnect, Setup, Accept, Malformed as NoTelegram}
+use Rattle.profile.specs.Profile.{sortedBy}
+use Rattle.profile.specs.Opening.{replyFor}
 use Rattle.channel.specs.declared.Answer.{Answer as ChannelAnswer}
 use Rattle.channel.specs.declared.Answer.the-variants.{Good, Done, Disconnected, Malformed, BlockSize, NotDue, Busy, BadLength, ShortBuffer, OtherLength, UsedUp, Broken, NoChange}
 use Rattle.open_end.specs.declared.answers.Answer.the-variants.{Channel, OtherId}
@@ -37,9 +38,9 @@ use Rattle.table.proofs.Rules.{recordAt, Alone, alone}
 
 -- ---- who owns an ID
 
--- "the ID it listens on: 0x200 + unit until its D0, then its receive ID; closed, none"
+-- "the ID it listens on: 0x200 + unit until its D0, then its receive ID; closed, none": 0x200 is TP 2.0's, the one profile that calls bring into a table (Tp20Only of table_runs)
 abbrev pub Listens : Connection → (id : ℕ) → Type 0
-Listens c id = ((c .phase ≡ 1) × (id ≡ 0x200 + c .settings .unit)) ⊎ ((2 ≤ c .phase) × (id ≡ c .end .receive))
+Listens c id = ((c .phase ≡ 1) × (id ≡ c .profile .reply + c .settings .unit)) ⊎ ((2 ≤ c .phase) × (id ≡ c .end .receive))
 
 -- no place listens on an ID
 abbrev pub NoneListens : Table → (id : ℕ) → Type 0
@@ -139,8 +140,8 @@ module _ (c : Connection) where
   heard-not-3 limit id s room h =
       by 3-not (isClosed c) (λ _ e. omega arith) λ _.
       by-not 3-not (hears c id) (λ n. absurd (true≢false (sym h ∙ n))) λ _.
-      by 3-not (isRequesting c) (λ _. reply-not-3 (replyRead s (c .settings .receive))) λ _.
-      by 3-not (isAgreeing c) (λ _. agreeing-not-3 (sorted s .kind)) (λ _. channel-not-3 (arrivedAt limit (c .end) (sorted s .kind) s room .answer))
+      by 3-not (isRequesting c) (λ _. reply-not-3 (replyFor (c .profile) s (c .settings .receive))) λ _.
+      by 3-not (isAgreeing c) (λ _. agreeing-not-3 (sortedBy (c .profile) s .kind)) (λ _. channel-not-3 (arrivedAt limit (c .end) (sortedBy (c .profile) s .kind) s room .answer))
     where
       3-not : RecordArrived → Type 0
       3-not r = r .told .said .number ≢ 3

@@ -19,7 +19,7 @@ use Rattle.open_end.specs.declared.answers.Answer.the-variants.{OutOfRange, Ful
 use Rattle.open_end.proofs.Rules.{noChannel, plainly}
 use Rattle.connection.specs.declared.Connection.{Connection}
 use Rattle.connection.specs.Calls.{opening}
-use Rattle.connection.proofs.Rules.{opening-leaves}
+use Rattle.connection.proofs.Rules.{plain, opening-leaves}
 use Rattle.table.specs.declared.Table.{Table}
 use Rattle.table.specs.declared.Place.the-variants.{Nowhere, At}
 use Rattle.table.specs.declared.Opened.{Opened}
@@ -34,6 +34,19 @@ abbrev pub past : Connection
 past =
     record {
       phase = 0;
+      profile =
+          record {
+            request = 0;
+            reply = 0;
+            offset = 0;
+            units = record { least = 0; most = 0 };
+            receives = record { least = 0; most = 0 };
+            transmits = record { least = 0; most = 0 };
+            short = false;
+            tests = false;
+            «least_t3» = 0;
+            bounded = false;
+          };
       settings = record { receive = 0; unit = 0; block = 0; t1 = 0; t3 = 0; «t_e» = 0; mntc = 0; mntb = 0; «t_wait» = 0; «t_ct» = 0; mnct = 0 };
       attempt = record { due = false; asked = false; wait = 0; repeats = 0 };
       leaving = false;
@@ -78,13 +91,14 @@ Reserved id = (0x200 ≤ id) × (id ≤ 0x2EF)
 
 -- what gives 10: a range of 01, a receive ID from 0x200 to 0x2EF, a unit or a receive ID in use
 abbrev pub Barred : Table → Settings → Type 0
-Barred t s = (InRange s → ⊥) ⊎ (Reserved (s .receive) ⊎ ((p : ℕ) × (p < 8) × Uses s (recordAt t p)))
+Barred t s = (InRange plain s → ⊥) ⊎ (Reserved (s .receive) ⊎ ((p : ℕ) × (p < 8) × Uses s (recordAt t p)))
 
--- what an opening leaves at its place: these settings, the C0 due, unasked and unrepeated, no wait running, no A8, no ID known
+-- what an opening leaves at its place: TP 2.0, these settings, the C0 due, unasked and unrepeated, no wait running, no A8, no ID known
 abbrev pub asking : Settings → Connection
 asking s =
     record {
       phase = 1;
+      profile = plain;
       settings = s;
       attempt = record { due = true; asked = false; wait = 0; repeats = 0 };
       leaving = false;
@@ -109,7 +123,7 @@ pub record Took (t : Table) (s : Settings) (p : ℕ) (r : Opened) : Type 0 where
 
 -- an opening that is none of these
 pub record Fits (t : Table) (s : Settings) : Type 0 where
-  pub ranges : InRange s
+  pub ranges : InRange plain s
   pub receive : Reserved (s .receive) → ⊥
   pub unused : (p : ℕ) → p < 8 → Uses s (recordAt t p) → ⊥
 
@@ -149,11 +163,11 @@ opens-outcome t s =
     (λ e. let at-place = used-at t (s .unit) (s .receive) e in
     inr (inl ((freeOf t, some, closed), inr (inr (at-place .0, at-place .1, uses-exactly s (recordAt t (at-place .0)) .0 (at-place .2))), refl))) λ unused.
     by-not (Outcome t s) (allowed s)
-    (λ e. inr (inl ((freeOf t, some, closed), inl (λ k. true≢false (sym (allowed-exactly s .1 k) ∙ e)), refl))) λ k.
+    (λ e. inr (inl ((freeOf t, some, closed), inl (λ k. true≢false (sym (allowed-exactly plain s .1 k) ∙ e)), refl))) λ k.
     let leaves = opening-leaves (recordAt t (freeOf t)) s closed k in
     inr (inr (
       record {
-        ranges = allowed-exactly s .0 k;
+        ranges = allowed-exactly plain s .0 k;
         receive = λ h. true≢false (sym (reserved-exactly (s .receive) .1 h) ∙ kept);
         unused = λ p h u. true≢false (sym (uses-exactly s (recordAt t p) .1 u) ∙ unused-at t (s .unit) (s .receive) p unused h);
       },
@@ -233,7 +247,7 @@ module _ (t : Table) (s : Settings) where
   open-receive-in-use some p h busy e = open-10 some (inr (inr (p, h, (λ z. omega arith, inr e))))
 
   -- a range of 01
-  pub open-out-of-range : SomeClosed t → (InRange s → ⊥) → opens t s ≡ ten t
+  pub open-out-of-range : SomeClosed t → (InRange plain s → ⊥) → opens t s ≡ ten t
   open-out-of-range some out = open-10 some (inl out)
 
   -- "otherwise the lowest closed place is used and named"

@@ -6,14 +6,17 @@ use mathlib.Core.Path.{_≡_, refl}
 use lib.ListN.{set}
 use Rattle.opening.specs.Opening.{replyRead}
 use Rattle.telegram.specs.Kinds.{badBlock, kindOf}
-use Rattle.settings.specs.Settings.{allowed}
+use Rattle.telegram.specs.Time.{tenthsOf}
+use Rattle.profile.specs.Profile.{within, sortedBy}
+use Rattle.profile.specs.Opening.{replyFor, named as namedBy}
+use Rattle.settings.specs.Settings.{allowedBy}
 use Rattle.settings.specs.declared.Settings.{Settings}
 use Rattle.channel.specs.declared.Answer.the-variants.{Good, Disconnected}
 use Rattle.open_end.proofs.Rules.{noChannel, plainly}
 use Rattle.connection.specs.declared.Connection.{Connection}
 use Rattle.connection.specs.Record.{listensOn, hears}
-use Rattle.connection.specs.Calls.{opening, onReply, onAgreeing, arrived, requestDue, dueOf, closed}
-use Rattle.connection.proofs.Rules.{atRest}
+use Rattle.connection.specs.Calls.{openingAs, onReply, onAgreeing, arrived, requestDue, dueOf, closed}
+use Rattle.connection.proofs.Rules.{plain, atRest}
 use Rattle.table.specs.declared.Table.{Table}
 use Rattle.table.specs.declared.Place.the-variants.{Nowhere, At}
 use Rattle.table.specs.declared.Opened.{Opened}
@@ -34,6 +37,7 @@ abbrev pub inPhase : (phase unit receive transmit : ℕ) → Connection
 inPhase phase unit receive transmit =
     record {
       phase = phase;
+      profile = plain;
       settings = unitAt unit receive;
       attempt = record { due = false; asked = false; wait = 0; repeats = 0 };
       leaving = false;
@@ -49,6 +53,7 @@ abbrev pub granted : (unit receive transmit : ℕ) → Connection
 granted unit receive transmit =
     record {
       phase = 2;
+      profile = plain;
       settings = unitAt unit receive;
       attempt = record { due = true; asked = false; wait = 0; repeats = 0 };
       leaving = false;
@@ -84,76 +89,76 @@ took p t = record { told = plainly Good 0; place = At p; table = t }
 
 -- a ninth opening overwrites no place
 pub ninth-refused : opens fullTable (unitAt 9 0x309) ≡ thirteen fullTable
-unfolding opens freeOf reserved isUsed usesEither allowed badBlock opening
+unfolding opens freeOf reserved isUsed usesEither allowedBy within badBlock tenthsOf openingAs
 ninth-refused = refl
 
 -- with the last place closed it is not full
 pub eighth-taken : opens (record { places = set (fullTable .places) 7 rest }) (unitAt 9 0x309) ≡ took 7 (record { places = set (fullTable .places) 7 (asking (unitAt 9 0x309)) })
-unfolding opens freeOf reserved isUsed usesEither allowed badBlock opening
+unfolding opens freeOf reserved isUsed usesEither allowedBy within badBlock tenthsOf openingAs
 eighth-taken = refl
 
 -- 13 "comes before 10": a unit and a receive ID in use, a reserved receive ID, a unit out of range
 pub full-before-in-use : opens fullTable (unitAt 1 0x301) ≡ thirteen fullTable
-unfolding opens freeOf reserved isUsed usesEither allowed badBlock opening
+unfolding opens freeOf reserved isUsed usesEither allowedBy within badBlock tenthsOf openingAs
 full-before-in-use = refl
 
 pub full-before-reserved : opens fullTable (unitAt 9 0x200) ≡ thirteen fullTable
-unfolding opens freeOf reserved isUsed usesEither allowed badBlock opening
+unfolding opens freeOf reserved isUsed usesEither allowedBy within badBlock tenthsOf openingAs
 full-before-reserved = refl
 
 pub full-before-out-of-range : opens fullTable (unitAt 0xF0 0x309) ≡ thirteen fullTable
-unfolding opens freeOf reserved isUsed usesEither allowed badBlock opening
+unfolding opens freeOf reserved isUsed usesEither allowedBy within badBlock tenthsOf openingAs
 full-before-out-of-range = refl
 
 -- "the lowest closed place", and no other: of 1 and of 3 to 7 it is 1
 pub lowest-taken : opens (row (opened 1 0x301 0x741) rest (opened 2 0x302 0x742)) (unitAt 3 0x303)
     ≡ took 1 (row (opened 1 0x301 0x741) (asking (unitAt 3 0x303)) (opened 2 0x302 0x742))
-unfolding opens freeOf reserved isUsed usesEither allowed badBlock opening
+unfolding opens freeOf reserved isUsed usesEither allowedBy within badBlock tenthsOf openingAs
 lowest-taken = refl
 
 -- a closed place with its A8 due is taken like any other, and its A8 is discarded
 pub leaving-taken : opens (row (opened 1 0x301 0x741) (atRest true 0x742) (opened 3 0x303 0x743)) (unitAt 4 0x304)
     ≡ took 1 (row (opened 1 0x301 0x741) (asking (unitAt 4 0x304)) (opened 3 0x303 0x743))
-unfolding opens freeOf reserved isUsed usesEither allowed badBlock opening
+unfolding opens freeOf reserved isUsed usesEither allowedBy within badBlock tenthsOf openingAs
 leaving-taken = refl
 
 -- "a receive ID from 0x200 to 0x2EF", both sides of each limit
 pub receive-1FF : opens (row rest rest rest) (unitAt 5 0x1FF) ≡ took 0 (row (asking (unitAt 5 0x1FF)) rest rest)
-unfolding opens freeOf reserved isUsed usesEither allowed badBlock opening
+unfolding opens freeOf reserved isUsed usesEither allowedBy within badBlock tenthsOf openingAs
 receive-1FF = refl
 
 pub receive-200 : opens (row rest rest rest) (unitAt 5 0x200) ≡ ten (row rest rest rest)
-unfolding opens freeOf reserved isUsed usesEither allowed badBlock opening
+unfolding opens freeOf reserved isUsed usesEither allowedBy within badBlock tenthsOf openingAs
 receive-200 = refl
 
 pub receive-2EF : opens (row rest rest rest) (unitAt 5 0x2EF) ≡ ten (row rest rest rest)
-unfolding opens freeOf reserved isUsed usesEither allowed badBlock opening
+unfolding opens freeOf reserved isUsed usesEither allowedBy within badBlock tenthsOf openingAs
 receive-2EF = refl
 
 pub receive-2F0 : opens (row rest rest rest) (unitAt 5 0x2F0) ≡ took 0 (row (asking (unitAt 5 0x2F0)) rest rest)
-unfolding opens freeOf reserved isUsed usesEither allowed badBlock opening
+unfolding opens freeOf reserved isUsed usesEither allowedBy within badBlock tenthsOf openingAs
 receive-2F0 = refl
 
 -- a range of 01: the unit 0xF0
 pub unit-F0 : opens (row rest rest rest) (unitAt 0xF0 0x305) ≡ ten (row rest rest rest)
-unfolding opens freeOf reserved isUsed usesEither allowed badBlock opening
+unfolding opens freeOf reserved isUsed usesEither allowedBy within badBlock tenthsOf openingAs
 unit-F0 = refl
 
 -- a transmit ID in common does not matter
 pub transmit-in-common : opens (row (opened 1 0x301 0x740) (opened 2 0x302 0x740) rest) (unitAt 3 0x303)
     ≡ took 2 (row (opened 1 0x301 0x740) (opened 2 0x302 0x740) (asking (unitAt 3 0x303)))
-unfolding opens freeOf reserved isUsed usesEither allowed badBlock opening
+unfolding opens freeOf reserved isUsed usesEither allowedBy within badBlock tenthsOf openingAs
 transmit-in-common = refl
 
 -- a receive ID that is another's transmit ID is not in use
 pub transmit-not-in-use : opens (row (opened 1 0x301 0x740) rest rest) (unitAt 3 0x740) ≡ took 1 (row (opened 1 0x301 0x740) (asking (unitAt 3 0x740)) rest)
-unfolding opens freeOf reserved isUsed usesEither allowed badBlock opening
+unfolding opens freeOf reserved isUsed usesEither allowedBy within badBlock tenthsOf openingAs
 transmit-not-in-use = refl
 
 -- a closed place's unit and receive ID do not count
 pub closed-not-in-use : opens (row (opened 1 0x301 0x741) (inPhase 0 5 0x305 0x745) rest) (unitAt 5 0x305)
     ≡ took 1 (row (opened 1 0x301 0x741) (asking (unitAt 5 0x305)) rest)
-unfolding opens freeOf reserved isUsed usesEither allowed badBlock opening
+unfolding opens freeOf reserved isUsed usesEither allowedBy within badBlock tenthsOf openingAs
 closed-not-in-use = refl
 
 -- ---- a unit from its opening to its D0, and behind it
@@ -166,12 +171,12 @@ abbrev pub replied : Table
 replied = arrives 1024 asked 0x205 (0x00 ∷ 0xD0 ∷ 0x05 ∷ 0x03 ∷ 0x40 ∷ 0x07 ∷ 0x01 ∷ []) 0 .table
 
 pub replied-is : replied ≡ row (granted 5 0x305 0x740) rest rest
-unfolding opens freeOf reserved isUsed usesEither allowed badBlock opening hands dueOf requestDue arrives ownerOf hears listensOn arrived replyRead onReply
+unfolding opens freeOf reserved isUsed usesEither allowedBy within badBlock tenthsOf openingAs hands dueOf requestDue arrives ownerOf hears listensOn arrived replyRead replyFor namedBy onReply
 replied-is = refl
 
 -- "0x200 + unit until its D0, then its receive ID"
 pub before-its-d0 : (named (ownerOf asked 0x205) ≡ At 0) × (named (ownerOf asked 0x305) ≡ Nowhere)
-unfolding opens freeOf reserved isUsed usesEither allowed badBlock opening hands dueOf requestDue ownerOf hears listensOn
+unfolding opens freeOf reserved isUsed usesEither allowedBy within badBlock tenthsOf openingAs hands dueOf requestDue ownerOf hears listensOn
 before-its-d0 = (refl, refl)
 
 pub behind-its-d0 : (named (ownerOf (row (granted 5 0x305 0x740) rest rest) 0x205) ≡ Nowhere) × (named (ownerOf (row (granted 5 0x305 0x740) rest rest) 0x305) ≡ At 0)
@@ -180,16 +185,16 @@ behind-its-d0 = (refl, refl)
 
 -- a unit in use is refused behind its D0, and so is a receive ID
 pub unit-in-use : opens (row (granted 5 0x305 0x740) rest rest) (unitAt 5 0x306) ≡ ten (row (granted 5 0x305 0x740) rest rest)
-unfolding opens freeOf reserved isUsed usesEither allowed badBlock opening
+unfolding opens freeOf reserved isUsed usesEither allowedBy within badBlock tenthsOf openingAs
 unit-in-use = refl
 
 pub receive-in-use : opens (row (granted 5 0x305 0x740) rest rest) (unitAt 6 0x305) ≡ ten (row (granted 5 0x305 0x740) rest rest)
-unfolding opens freeOf reserved isUsed usesEither allowed badBlock opening
+unfolding opens freeOf reserved isUsed usesEither allowedBy within badBlock tenthsOf openingAs
 receive-in-use = refl
 
 -- and on an open connection
 pub open-in-use : opens (row rest (opened 5 0x305 0x740) rest) (unitAt 5 0x306) ≡ ten (row rest (opened 5 0x305 0x740) rest)
-unfolding opens freeOf reserved isUsed usesEither allowed badBlock opening
+unfolding opens freeOf reserved isUsed usesEither allowedBy within badBlock tenthsOf openingAs
 open-in-use = refl
 
 -- ---- a frame arrives
@@ -197,7 +202,7 @@ open-in-use = refl
 -- a frame for the second place, here an A8, is not given to the first, though that is open
 pub second-hears : arrives 1024 (row (opened 1 0x301 0x741) (granted 2 0x302 0x742) (opened 3 0x303 0x743)) 0x302 (0xA8 ∷ []) 0
     ≡ record { told = plainly Disconnected 0; padded = false; place = At 1; table = row (opened 1 0x301 0x741) (atRest true 0x742) (opened 3 0x303 0x743) }
-unfolding arrives ownerOf hears listensOn arrived onAgreeing kindOf
+unfolding arrives ownerOf hears listensOn arrived sortedBy onAgreeing kindOf
 second-hears = refl
 
 -- "closed, none": a closed place owns neither its receive ID nor 0x200 + unit

@@ -21,11 +21,24 @@ places = 8
 abbrev pub empty : Table
 empty = record { places = replicate places closedRecord }
 
--- what stands for a record past the last place: closed, with every number 0
+-- what stands for a record past the last place: closed, with every number 0, those of the profile too
 abbrev pub noRecord : Connection
 noRecord =
     record {
       phase = phaseClosed;
+      profile =
+          record {
+            request = 0;
+            reply = 0;
+            offset = 0;
+            units = record { least = 0; most = 0 };
+            receives = record { least = 0; most = 0 };
+            transmits = record { least = 0; most = 0 };
+            short = false;
+            tests = false;
+            «least_t3» = 0;
+            bounded = false;
+          };
       settings = record { receive = 0; unit = 0; block = 0; t1 = 0; t3 = 0; «t_e» = 0; mntc = 0; mntb = 0; «t_wait» = 0; «t_ct» = 0; mnct = 0 };
       attempt = noAttempt;
       leaving = false;

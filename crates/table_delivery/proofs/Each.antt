@@ -4,9 +4,11 @@ use native.Mathlib.Omega.{arith}
 use mathlib.Core.List.{List, [], _∷_, _++_}
 use mathlib.Core.Path.{_≡_, refl}
 use Rattle.telegram.specs.Kinds.{badBlock}
-use Rattle.settings.specs.Settings.{allowed}
+use Rattle.telegram.specs.Time.{tenthsOf}
+use Rattle.profile.specs.Profile.{within}
+use Rattle.settings.specs.Settings.{allowedBy}
 use Rattle.settings.specs.declared.Settings.{Settings}
-use Rattle.connection.specs.Calls.{opening}
+use Rattle.connection.specs.Calls.{openingAs}
 use Rattle.table.specs.declared.Place.the-variants.{Nowhere, At}
 use Rattle.table.specs.Table.{places, empty, freeOf, isUsed, usesEither, reserved}
 use Rattle.table.specs.Calls.{opens}
@@ -24,7 +26,7 @@ openings (suc n) = openings n ++ (open′ (unitAt n) ∷ [])
 
 -- the next takes the next place
 pub each : (limit p : ℕ) → p < places → opens (run limit empty (openings p)) (unitAt p) .place ≡ At p
-unfolding opens freeOf isUsed usesEither reserved allowed badBlock opening
+unfolding opens freeOf isUsed usesEither reserved allowedBy within tenthsOf badBlock openingAs
 each limit zero h = refl
 each limit (suc zero) h = refl
 each limit (suc (suc zero)) h = refl
@@ -37,5 +39,5 @@ each limit (suc (suc (suc (suc (suc (suc (suc (suc n)))))))) h = absurd (omega a
 
 -- with all eight places in use
 pub ninth : (limit : ℕ) → opens (run limit empty (openings 8)) (unitAt 8) .told .said .number ≡ 13
-unfolding opens freeOf isUsed usesEither reserved allowed badBlock opening
+unfolding opens freeOf isUsed usesEither reserved allowedBy within tenthsOf badBlock openingAs
 ninth limit = refl

@@ -85,22 +85,22 @@ module _ (limit place : ℕ) where
       -- ---- call by call
 
       -- a message is offered
-      pub send-there : (n : ℕ) → toldThere (placeEnd limit place .send x n) ≡ connectionEnd limit .send (recordOf limit place x) n
+      pub send-there : (n : ℕ) → toldThere (placeEnd limit place .send x n) ≡ connectionEnd limit true .send (recordOf limit place x) n
       unfolding sends
       send-there n = rw (← same-there, left-there met (send place n) refl, inside)
 
       -- a message is taken
-      pub take-there : (room : ℕ) → shownThere (placeEnd limit place .take x room) ≡ connectionEnd limit .take (recordOf limit place x) room
+      pub take-there : (room : ℕ) → shownThere (placeEnd limit place .take x room) ≡ connectionEnd limit true .take (recordOf limit place x) room
       unfolding takes
       take-there room = rw (← same-there, left-there met (take place room) refl, inside)
 
       -- time passes
-      pub time-there : (n : ℕ) → toldThere (placeEnd limit place .time x n) ≡ connectionEnd limit .time (recordOf limit place x) n
+      pub time-there : (n : ℕ) → toldThere (placeEnd limit place .time x n) ≡ connectionEnd limit true .time (recordOf limit place x) n
       unfolding elapses
       time-there n = rw (← same-there, left-there met (time place n) refl, inside)
 
       -- what is due
-      pub due-there : (m : List ℕ) → givenThere (placeEnd limit place .due x m) ≡ connectionEnd limit .due (recordOf limit place x) m
+      pub due-there : (m : List ℕ) → givenThere (placeEnd limit place .due x m) ≡ connectionEnd limit true .due (recordOf limit place x) m
       unfolding hands
       due-there m = rw (← same-there, left-there met (due place m) refl, inside)
 
@@ -112,13 +112,13 @@ module _ (limit place : ℕ) where
 
       -- a frame on an ID that it owns is the record's
       module _ (id : ℕ) (mine : ownerOf (tableOf limit met) id ≡ place) where
-        pub arrive-there : (bytes : List ℕ) (room : ℕ) → toldThere (placeEnd limit place .arrive x id bytes room) ≡ connectionEnd limit .arrive (recordOf limit place x) id bytes room
+        pub arrive-there : (bytes : List ℕ) (room : ℕ) → toldThere (placeEnd limit place .arrive x id bytes room) ≡ connectionEnd limit true .arrive (recordOf limit place x) id bytes room
         unfolding arrives
         arrive-there bytes room =
             rw (← same-there, left-there met (frame id bytes room) mine, leaves, mine, inside, eq-eqb place place refl)
 
         -- the lent buffer after it
-        pub buffered-there : (bytes b : List ℕ) → placeEnd limit place .buffered x id bytes b ≡ connectionEnd limit .buffered (recordOf limit place x) id bytes b
+        pub buffered-there : (bytes b : List ℕ) → placeEnd limit place .buffered x id bytes b ≡ connectionEnd limit true .buffered (recordOf limit place x) id bytes b
         unfolding buffers
         buffered-there bytes b = rw (← same-there, mine, inside, eq-eqb place place refl)
 

@@ -117,7 +117,7 @@ pub record ForAPlace (limit place : ℕ) (F : End) : Type 0 where
 abbrev pub PlacesDeliver : Type 0
 PlacesDeliver =
     (limit : ℕ) → limit ≤ 4095 → (p : ℕ) → p < places
-    → ForAPlace limit p (unitEnd limit) × ForAPlace limit p (connectionEnd limit) × ((q : ℕ) → q < places → ForAPlace limit p (placeEnd limit q))
+    → ForAPlace limit p (unitEnd limit) × ForAPlace limit p (connectionEnd limit true) × ((q : ℕ) → q < places → ForAPlace limit p (placeEnd limit q))
 
 -- ---- what a place meets
 

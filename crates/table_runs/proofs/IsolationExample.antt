@@ -5,11 +5,14 @@ use mathlib.Core.Path.{_≡_, refl, ap}
 use mathlib.Core.Logic.{_≢_, inl}
 use mathlib.Core.List.{List, [], _∷_, map}
 use Rattle.telegram.specs.Kinds.{badBlock}
+use Rattle.telegram.specs.Time.{tenthsOf}
 use Rattle.opening.specs.Opening.{replyRead}
-use Rattle.settings.specs.Settings.{defaults, allowed}
+use Rattle.profile.specs.Profile.{within}
+use Rattle.profile.specs.Opening.{replyFor, named}
+use Rattle.settings.specs.Settings.{defaults, allowedBy}
 use Rattle.settings.specs.declared.Settings.{Settings}
 use Rattle.connection.specs.Record.{phaseAgreeing, hears, listensOn}
-use Rattle.connection.specs.Calls.{opening as begun, onReply, arrived, requestDue, dueOf, closed}
+use Rattle.connection.specs.Calls.{openingAs, onReply, arrived, requestDue, dueOf, closed}
 use Rattle.table.specs.Table.{places, at, ownerOf, freeOf, isUsed, usesEither, reserved}
 use Rattle.table.specs.Calls.{opens, arrives, hands, closes}
 use Rattle.table_runs.specs.Runs.Call.{frame, due, close}
@@ -48,7 +51,7 @@ module _ (limit : ℕ) where
 
   -- by computation
   pub telling : Telling
-  unfolding opens freeOf isUsed usesEither reserved allowed badBlock hands arrives closes ownerOf hears listensOn begun dueOf requestDue arrived replyRead onReply closed
+  unfolding opens freeOf isUsed usesEither reserved allowedBy within badBlock tenthsOf hands arrives closes ownerOf hears listensOn openingAs dueOf requestDue arrived replyRead replyFor named onReply closed
   telling =
       record {
         fair =
@@ -79,7 +82,7 @@ module _ (limit : ℕ) where
     pub unit : at (runs limit begin laterEvents .one .table) 0 .settings .unit ≡ 2
 
   pub later : Later
-  unfolding opens freeOf isUsed usesEither reserved allowed badBlock hands closes begun dueOf requestDue closed
+  unfolding opens freeOf isUsed usesEither reserved allowedBy within badBlock tenthsOf hands closes openingAs dueOf requestDue closed
   later =
       record {
         fair = ((λ p. refl, refl), ((tt, inl refl), ((tt, inl refl), ((tt, inl refl), (elim [ zero ↦ refl | suc p ↦ refl ], ((tt, (other, other)), tt))))));

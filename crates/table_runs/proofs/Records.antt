@@ -1,17 +1,18 @@
--- What a call leaves of a record: a closed one, or one that goes on, with its settings, settled if it was.
+-- What a call leaves of a record: a closed one, or one that goes on, with its settings, settled if it was; in TP 2.0 either is TP 2.0's.
 --     GoesOnAs, Left                                                               what goes on; what is closed or goes on
 --     arrived-left, elapsed-left, due-left, sent-left, taken-left, closed-left     each call leaves that
 use Prim.Native.Nat.{ℕ}
 use mathlib.Core.Bool.{true, false, true≢false}
 use mathlib.Core.List.{List}
-use mathlib.Core.Path.{_≡_, refl, _∙_}
+use mathlib.Core.Path.{_≡_, refl, sym, _∙_}
 use Rattle.laws.proofs.Cases.{by, by-not, by-eq, by-lt, by-le}
-use Rattle.telegram.specs.Kinds.{badBlock, sorted}
+use Rattle.telegram.specs.Kinds.{badBlock}
 use Rattle.telegram.specs.declared.kinds.Telegram.{Telegram}
 use Rattle.telegram.specs.declared.kinds.Telegram.the-variants.{Data, Ack, Test, Break, Disconnect, Setup, Accept, Malformed as NoTelegram}
-use Rattle.opening.specs.Opening.{replyRead}
 use Rattle.opening.specs.declared.Reply.{Reply}
 use Rattle.opening.specs.declared.Reply.the-variants.{Positive, Refused, Malformed as NoReply}
+use Rattle.profile.specs.Profile.{tp20, sortedBy}
+use Rattle.profile.specs.Opening.{replyFor}
 use Rattle.open_end.specs.declared.Frame.{Frame}
 use Rattle.open_end.specs.declared.OpenEnd.{OpenEnd}
 use Rattle.open_end.specs.declared.Course.{Course}
@@ -34,9 +35,10 @@ pub record GoesOnAs (c d : Connection) : Type 0 where
   pub settled : Settled c → Settled d
 
 module _ (c : Connection) where
-  -- what a call leaves is closed, or goes on
-  abbrev pub Left : Connection → Type 0
-  Left d = isClosed d ≡ false → GoesOnAs c d
+  -- what a call leaves is closed, or goes on; a profile of TP 2.0 stays
+  pub record Left (d : Connection) : Type 0 where
+    pub profile : c .profile ≡ tp20 → d .profile ≡ tp20
+    pub goesOn : isClosed d ≡ false → GoesOnAs c d
 
   -- in what the calls give
   abbrev Answers : Answered → Type 0
@@ -49,27 +51,35 @@ module _ (c : Connection) where
 
   -- the same
   unchanged : Left c
-  unchanged u = record { used = u; settings = refl; settled = λ k. k }
+  unchanged = record { profile = λ k. k; goesOn = λ u. record { used = u; settings = refl; settled = λ k. k } }
 
   -- a closed one
-  gone : {d : Connection} → true ≡ false → GoesOnAs c d
-  gone u = absurd (true≢false u)
+  gone : {d : Connection} → isClosed d ≡ true → d .profile ≡ tp20 → Left d
+  gone z t = record { profile = λ _. t; goesOn = λ u. absurd (true≢false (sym z ∙ u)) }
+
+  -- one with the same profile and settings
+  going : {d : Connection} → d .profile ≡ c .profile → d .settings ≡ c .settings → (isClosed d ≡ false → isClosed c ≡ false)
+      → (Settled c → isRequesting d ≡ false → d .end .receive ≡ d .settings .receive) → Left d
+  going p s used listens =
+      record {
+        profile = λ k. p ∙ k;
+        goesOn = λ u. record { used = used u; settings = s; settled = λ k. record { unit = rw s (k .unit); receive = rw s (k .receive); listens = listens k } };
+      }
 
   -- another request of the opening
   with-attempt : (a : Attempt) → Left (withAttempt c a)
-  with-attempt a u = record { used = u; settings = refl; settled = λ k. record { unit = k .unit; receive = k .receive; listens = k .listens } }
+  with-attempt a = going refl refl (λ u. u) (λ k. k .listens)
 
   -- another end that listens where it did
   with-end : (e : OpenEnd) → e .receive ≡ c .end .receive → Left (withOpenEnd c e)
-  with-end e same u =
-      record { used = u; settings = refl; settled = λ k. record { unit = k .unit; receive = k .receive; listens = λ r. same ∙ k .listens r } }
+  with-end e same = going refl refl (λ u. u) (λ k r. same ∙ k .listens r)
 
   -- what an answer of the open end leaves
   settled-left : (course : Course) (e : OpenEnd) → e .receive ≡ c .end .receive → Left (settled c course e)
   unfolding settled
   settled-left GoesOn e same = with-end e same
-  settled-left GivenUp e same = gone
-  settled-left Leaves e same = gone
+  settled-left GivenUp e same = gone refl refl
+  settled-left Leaves e same = gone refl refl
 
   -- ---- a frame arrives
 
@@ -77,19 +87,17 @@ module _ (c : Connection) where
   reply-left : isClosed c ≡ false → (r : Reply) → Left (onReply c r .connection)
   unfolding onReply
   reply-left u NoReply = unchanged
-  reply-left u (Refused opcode) = by-not Answers (c .attempt .asked) (λ _. unchanged) (λ _. gone)
+  reply-left u (Refused opcode) = by-not Answers (c .attempt .asked) (λ _. unchanged) (λ _. gone refl refl)
   reply-left u (Positive transmit) =
-      by-not Answers (c .attempt .asked) (λ _. unchanged) λ _ _.
-      record { used = u; settings = refl; settled = λ k. record { unit = k .unit; receive = k .receive; listens = λ _. refl } }
+      by-not Answers (c .attempt .asked) (λ _. unchanged) (λ _. going refl refl (λ _. u) (λ k _. refl))
 
   -- the A1 opens it on the same ID
   agreeing-left : isClosed c ≡ false → isRequesting c ≡ false → (kind : Telegram) → Left (onAgreeing c kind .connection)
   unfolding onAgreeing onAccept
   agreeing-left u r (Accept p) =
       by-not Answers (c .attempt .asked) (λ _. unchanged) λ _.
-      by Answers (badBlock (p .block)) (λ _. unchanged) λ _ _.
-      record { used = u; settings = refl; settled = λ k. record { unit = k .unit; receive = k .receive; listens = λ _. k .listens r } }
-  agreeing-left u r Disconnect = gone
+      by Answers (badBlock (p .block)) (λ _. unchanged) (λ _. going refl refl (λ _. u) (λ k _. k .listens r))
+  agreeing-left u r Disconnect = gone refl refl
   agreeing-left u r NoTelegram = unchanged
   agreeing-left u r (Data asks last number) = unchanged
   agreeing-left u r (Ack ready number) = unchanged
@@ -107,8 +115,8 @@ module _ (c : Connection) where
   arrived-left limit id s room =
       by Arrives (isClosed c) (λ _. unchanged) λ u.
       by-not Arrives (hears c id) (λ _. unchanged) λ _.
-      by Arrives (isRequesting c) (λ _. reply-left u (replyRead s (c .settings .receive))) λ r.
-      by Arrives (isAgreeing c) (λ _. agreeing-left u r (sorted s .kind)) (λ _. open-left limit (sorted s .kind) s room)
+      by Arrives (isRequesting c) (λ _. reply-left u (replyFor (c .profile) s (c .settings .receive))) λ r.
+      by Arrives (isAgreeing c) (λ _. agreeing-left u r (sortedBy (c .profile) s .kind)) (λ _. open-left limit (sortedBy (c .profile) s .kind) s room)
     where
       Arrives : Arrived → Type 0
       Arrives x = Left (x .connection)
@@ -121,7 +129,7 @@ module _ (c : Connection) where
   attempt-left n =
       by-eq Answers (c .attempt .wait) 0 (λ _. unchanged) λ _.
       by-lt Answers n (c .attempt .wait) (λ _. with-attempt _) λ _.
-      by-le Answers (c .settings .mntc) (c .attempt .repeats) (λ _. gone) (λ _. with-attempt _)
+      by-le Answers (c .settings .mntc) (c .attempt .repeats) (λ _. gone refl refl) (λ _. with-attempt _)
 
   pub elapsed-left : (n : ℕ) → Left (elapsed c n .connection)
   unfolding elapsed openElapsed elapsedAt
@@ -139,7 +147,7 @@ module _ (c : Connection) where
   pub due-left : (m : List ℕ) → Left (dueOf c m .connection)
   unfolding dueOf closedDue openDue dueAt
   due-left m =
-      by Hands (isClosed c) (λ _. by-not Hands (c .leaving) (λ _. unchanged) (λ _. gone)) λ _.
+      by Hands (isClosed c) (λ _. by-not Hands (c .leaving) (λ _. unchanged) (λ _. gone refl refl)) λ _.
       by Hands (isRequesting c) (λ _. request-left _) λ _.
       by Hands (isAgreeing c) (λ _. request-left _) (λ _. with-end _ refl)
 
@@ -155,4 +163,4 @@ module _ (c : Connection) where
 
   pub closed-left : Left (closed c .connection)
   unfolding closed
-  closed-left = by Answers (isClosed c) (λ _. unchanged) λ _. by Answers (isRequesting c) (λ _. gone) (λ _. gone)
+  closed-left = by Answers (isClosed c) (λ _. unchanged) λ _. by Answers (isRequesting c) (λ _. gone refl refl) (λ _. gone refl refl)

@@ -1,4 +1,4 @@
--- A call to one place leaves every other as it was; and after every list of calls the units and receive IDs in use are distinct, and no ID has two owners.
+-- A call to one place leaves every other as it was; and after every list of calls the units and receive IDs in use are distinct, no ID has two owners, and every record is TP 2.0's.
 use Prim.Native.Nat.{ℕ, _+_, _≤_, _<_}
 use native.Mathlib.Omega.{arith}
 use mathlib.Core.Bool.{true, false, _||_, true≢false, false≢true}
@@ -10,6 +10,9 @@ use lib.Dec.{leb, eqb}
 use lib.ListN.{length-set, getD-replicate, List·getD-eq-default}
 use borrow.Author.Tests.{le-leb, eqb-true, eqb-false}
 use Rattle.laws.proofs.Cases.{by, by-not, by-eq, by-lt, by-le, either, or-first, or-second}
+use Rattle.profile.specs.Profile.{tp20}
+use Rattle.profile.specs.Opening.{replyId}
+use Rattle.profile.specs.declared.Profile.{Profile}
 use Rattle.settings.specs.Settings.{allowed}
 use Rattle.settings.specs.declared.Settings.{Settings}
 use Rattle.settings.proofs.Rules.{allowed-exactly}
@@ -20,10 +23,10 @@ use Rattle.table.specs.declared.Table.{Table}
 use Rattle.table.specs.declared.Opened.{Opened}
 use Rattle.table.specs.Table.{places, empty, noRecord, at, with, ownerOf, freeOf, usesEither, isUsed, reserved}
 use Rattle.table.specs.Calls.{opens}
-use Rattle.table_runs.specs.Runs.{Call, step, run, numberOf, goesTo, OthersStay, InUse, Distinct, DistinctHolds, FoundHolds, Settled, Proper, ProperHolds}
+use Rattle.table_runs.specs.Runs.{Call, step, run, numberOf, goesTo, OthersStay, InUse, Distinct, DistinctHolds, FoundHolds, Settled, Proper, ProperHolds, Tp20Only}
 use Rattle.table_runs.specs.Runs.Call.{open′, frame, time, due, send, take, close}
 use Rattle.table.proofs.Found.{owner-hears, owner-first, unused-at}
-use Rattle.table_runs.proofs.Records.{Left, arrived-left, elapsed-left, due-left, sent-left, taken-left, closed-left}
+use Rattle.table_runs.proofs.Records.{GoesOnAs, Left, arrived-left, elapsed-left, due-left, sent-left, taken-left, closed-left}
 use Rattle.table_runs.proofs.Steps.{put, leaves, steps-put, with-here, with-other, put-other}
 
 -- ---- "a call to one place leaves every other place as it was"
@@ -46,6 +49,11 @@ record Fits (t : Table) (p : ℕ) (d : Connection) : Type 0 where
   settled : Settled d
   units : Apart (λ s. s .unit) t p d
   receives : Apart (λ s. s .receive) t p d
+
+-- a record that may stand at a place: TP 2.0's, and closed or one of these
+record Stands (t : Table) (p : ℕ) (d : Connection) : Type 0 where
+  profile : d .profile ≡ tp20
+  fits : isClosed d ≡ false → Fits t p d
 
 -- a record in use that uses neither a unit nor a receive ID has neither
 uses-neither : (unit receive : ℕ) (c : Connection) → isClosed c ≡ false → usesEither unit receive c ≡ false → (c .settings .unit ≢ unit) × (c .settings .receive ≢ receive)
@@ -85,37 +93,46 @@ module _ {t : Table} (k : Proper t) where
         go (other n) (here e) u v same = absurd (apart v q n u (sym same))
         go (other n) (other m) u v same = unique q r u v same
 
-    -- the table stays proper with a record that is closed or fits
-    proper-put : (p < places → isClosed d ≡ false → Fits t p d) → Proper (put t p d)
-    proper-put fits =
+    -- the table stays proper with a record that may stand there
+    proper-put : (p < places → Stands t p d) → Proper (put t p d)
+    proper-put stands =
         by-le Proper places p (λ _. k) λ below.
+        let new = stands below in
         record {
           eight = length-set (t .places) p d ∙ k .eight;
-          settled = λ q. go (fits below) (seen below q);
-          units = unique-with below (λ s. s .unit) (k .units) (λ u. fits below u .units);
-          receives = unique-with below (λ s. s .receive) (k .receives) (λ u. fits below u .receives);
+          profiles = λ q. profile new (seen below q);
+          settled = λ q. settled new (seen below q);
+          units = unique-with below (λ s. s .unit) (k .units) (λ u. new .fits u .units);
+          receives = unique-with below (λ s. s .receive) (k .receives) (λ u. new .fits u .receives);
         }
       where
-        go : (isClosed d ≡ false → Fits t p d) → {q : ℕ} {x : Connection} → Seen q x → isClosed x ≡ false → Settled x
-        go fits (here e) u = fits u .settled
-        go fits {q} (other n) u = k .settled q u
+        profile : Stands t p d → {q : ℕ} {x : Connection} → Seen q x → q < places → x .profile ≡ tp20
+        profile new (here e) h = new .profile
+        profile new {q} (other n) h = k .profiles q h
 
-    -- what a call leaves of the record that stood there fits
-    left-fits : Left (at t p) d → isClosed d ≡ false → Fits t p d
-    left-fits left u =
-        record {
-          settled = left u .settled (k .settled p (left u .used));
-          units = apart (λ s. s .unit) (k .units);
-          receives = apart (λ s. s .receive) (k .receives);
-        }
+        settled : Stands t p d → {q : ℕ} {x : Connection} → Seen q x → isClosed x ≡ false → Settled x
+        settled new (here e) u = new .fits u .settled
+        settled new {q} (other n) u = k .settled q u
+
+    -- what a call leaves of the record that stood there may stand there
+    left-stands : p < places → Left (at t p) d → Stands t p d
+    left-stands below left = record { profile = left .profile (k .profiles p below); fits = λ u. fits (left .goesOn u) }
       where
-        apart : (f : Settings → ℕ) → Unique f t → Apart f t p d
-        apart f unique q n v e = n (unique q p v (left u .used) (sym e ∙ ap f (left u .settings)))
+        fits : GoesOnAs (at t p) d → Fits t p d
+        fits on =
+            record {
+              settled = on .settled (k .settled p (on .used));
+              units = apart (λ s. s .unit) (k .units);
+              receives = apart (λ s. s .receive) (k .receives);
+            }
+          where
+            apart : (f : Settings → ℕ) → Unique f t → Apart f t p d
+            apart f unique q n v e = n (unique q p v (on .used) (sym e ∙ ap f (on .settings)))
 
-  -- so does the record of an opening
+  -- the record of an opening fits
   new-fits : (p : ℕ) (s : Settings) → reserved (s .receive) ≡ false → isUsed t (s .unit) (s .receive) ≡ false → allowed s ≡ true → Fits t p (requesting s)
   new-fits p s r i a =
-      let within = allowed-exactly s .0 a .unit in
+      let within = allowed-exactly tp20 s .0 a .unit in
       record {
         settled = record { unit = omega arith; receive = r; listens = λ e. absurd (true≢false e) };
         units = λ q _ u e. free q u .0 (sym e);
@@ -138,15 +155,15 @@ module _ {t : Table} (k : Proper t) where
       Taken : Opened → Type 0
       Taken x = numberOf (x .place) < places → Fits t (numberOf (x .place)) (requesting s)
 
-  -- what every call leaves fits
-  step-fits : (limit : ℕ) (c : Call) → goesTo t c < places → isClosed (leaves limit t c) ≡ false → Fits t (goesTo t c) (leaves limit t c)
-  step-fits limit (open′ s) below = λ _. opens-fits s below
-  step-fits limit (frame id bytes room) below = left-fits (ownerOf t id) _ (arrived-left _ limit id bytes room)
-  step-fits limit (time p n) below = left-fits p _ (elapsed-left _ n)
-  step-fits limit (due p m) below = left-fits p _ (due-left _ m)
-  step-fits limit (send p n) below = left-fits p _ (sent-left _ limit n)
-  step-fits limit (take p room) below = left-fits p _ (taken-left _ room)
-  step-fits limit (close p) below = left-fits p _ (closed-left _)
+  -- what every call leaves may stand where it is left
+  step-stands : (limit : ℕ) (c : Call) → goesTo t c < places → Stands t (goesTo t c) (leaves limit t c)
+  step-stands limit (open′ s) below = record { profile = refl; fits = λ _. opens-fits s below }
+  step-stands limit (frame id bytes room) below = left-stands (ownerOf t id) _ below (arrived-left _ limit id bytes room)
+  step-stands limit (time p n) below = left-stands p _ below (elapsed-left _ n)
+  step-stands limit (due p m) below = left-stands p _ below (due-left _ m)
+  step-stands limit (send p n) below = left-stands p _ below (sent-left _ limit n)
+  step-stands limit (take p room) below = left-stands p _ below (taken-left _ room)
+  step-stands limit (close p) below = left-stands p _ below (closed-left _)
 
 -- ---- every list of calls
 
@@ -159,10 +176,16 @@ none-used p u =
 
 pub proper-empty : Proper empty
 proper-empty =
-    record { eight = refl; settled = λ p u. absurd (none-used p u); units = λ p q u v e. absurd (none-used p u); receives = λ p q u v e. absurd (none-used p u) }
+    record {
+      eight = refl;
+      profiles = λ p h. ap (λ c. c .profile) (getD-replicate places p closedRecord noRecord h);
+      settled = λ p u. absurd (none-used p u);
+      units = λ p q u v e. absurd (none-used p u);
+      receives = λ p q u v e. absurd (none-used p u);
+    }
 
 pub proper-step : (limit : ℕ) (t : Table) (c : Call) → Proper t → Proper (step limit t c)
-proper-step limit t c k = rw (steps-put limit t c) (proper-put k (goesTo t c) (leaves limit t c) (step-fits k limit c))
+proper-step limit t c k = rw (steps-put limit t c) (proper-put k (goesTo t c) (leaves limit t c) (step-stands k limit c))
 
 proper-run : (limit : ℕ) (cs : List Call) (t : Table) → Proper t → Proper (run limit t cs)
 proper-run limit [] t k = k
@@ -170,6 +193,15 @@ proper-run limit (c ∷ cs) t k = proper-run limit cs (step limit t c) (proper-s
 
 pub proper-holds : ProperHolds
 proper-holds limit cs = proper-run limit cs empty proper-empty
+
+-- ---- "Requests 2, 5, 7 and 11 stay TP 2.0" (02, 10)
+
+-- a record in use is TP 2.0's
+pub proper-tp20 : (t : Table) → Proper t → (p : ℕ) → InUse t p → at t p .profile ≡ tp20
+proper-tp20 t k p u = k .profiles p (used-below k p u)
+
+pub tp20-only : Tp20Only
+tp20-only limit cs = proper-holds limit cs .profiles
 
 -- ---- owners
 
@@ -187,11 +219,11 @@ data Listens (c : Connection) (id : ℕ) : Type 0 where
   on-reply : reserved id ≡ true → id ≡ 0x200 + c .settings .unit → Listens c id
   on-receive : reserved id ≡ false → id ≡ c .settings .receive → Listens c id
 
-listens : (c : Connection) (id : ℕ) → Settled c → hears c id ≡ true → Listens c id
+listens : (c : Connection) (id : ℕ) → c .profile ≡ tp20 → Settled c → hears c id ≡ true → Listens c id
 unfolding hears listensOn
-listens c id k =
+listens c id plain k =
     by Told (isClosed c) (λ _ h. absurd (false≢true h)) λ _.
-    by Told (isRequesting c) (λ _ h. replies (eqb-true id _ h)) (λ r h. receives (eqb-true id _ h ∙ k .listens r))
+    by Told (isRequesting c) (λ _ h. replies (eqb-true id _ h ∙ ap (λ (x : Profile). replyId x (c .settings .unit)) plain)) (λ r h. receives (eqb-true id _ h ∙ k .listens r))
   where
     Told : Option ℕ → Type 0
     Told x = isThat id x ≡ true → Listens c id
@@ -206,7 +238,7 @@ pub proper-distinct : (t : Table) → Proper t → Distinct t
 proper-distinct t k = record { units = k .units; receives = k .receives; owners = owners }
   where
     owners : (id p q : ℕ) → hears (at t p) id ≡ true → hears (at t q) id ≡ true → p ≡ q
-    owners id p q f g = go (listens (at t p) id (k .settled p u) f) (listens (at t q) id (k .settled q v) g)
+    owners id p q f g = go (listens (at t p) id (proper-tp20 t k p u) (k .settled p u) f) (listens (at t q) id (proper-tp20 t k q v) (k .settled q v) g)
       where
         u : InUse t p
         u = hears-used (at t p) id f

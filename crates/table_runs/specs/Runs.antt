@@ -1,10 +1,11 @@
 -- 02, 7: lists of calls to a table, and what holds after every list from the empty one. proofs/Runs.antt proves it.
-use Prim.Native.Nat.{ℕ, _≤_}
+use Prim.Native.Nat.{ℕ, _≤_, _<_}
 use mathlib.Core.Bool.{Bool, true, false}
 use mathlib.Core.Path.{_≡_}
 use mathlib.Core.Logic.{_≢_}
 use mathlib.Core.List.{List, [], _∷_}
 use lib.ListN.{length}
+use Rattle.profile.specs.Profile.{tp20}
 use Rattle.settings.specs.declared.Settings.{Settings}
 use Rattle.connection.specs.declared.Connection.{Connection}
 use Rattle.connection.specs.Record.{isClosed, isRequesting, hears}
@@ -88,9 +89,10 @@ pub record Settled (c : Connection) : Type 0 where
   pub receive : reserved (c .settings .receive) ≡ false
   pub listens : isRequesting c ≡ false → c .end .receive ≡ c .settings .receive
 
--- a table of eight places, in use as `open` lets them come into use
+-- a table of eight places, every record TP 2.0's, in use as `open` lets them come into use
 pub record Proper (t : Table) : Type 0 where
   pub eight : length (t .places) ≡ places
+  pub profiles : (p : ℕ) → p < places → at t p .profile ≡ tp20
   pub settled : (p : ℕ) → InUse t p → Settled (at t p)
   pub units : (p q : ℕ) → InUse t p → InUse t q → at t p .settings .unit ≡ at t q .settings .unit → p ≡ q
   pub receives : (p q : ℕ) → InUse t p → InUse t q → at t p .settings .receive ≡ at t q .settings .receive → p ≡ q
@@ -98,3 +100,7 @@ pub record Proper (t : Table) : Type 0 where
 -- the empty table is proper, each call keeps it so, and so does every list of calls
 abbrev pub ProperHolds : Type 0
 ProperHolds = (limit : ℕ) (cs : List Call) → Proper (run limit empty cs)
+
+-- "Requests 2, 5, 7 and 11 stay TP 2.0" (02, 10): after every list of calls the record at each place is TP 2.0's, closed or not
+abbrev pub Tp20Only : Type 0
+Tp20Only = (limit : ℕ) (cs : List Call) (p : ℕ) → p < places → at (run limit empty cs) p .profile ≡ tp20

@@ -14,6 +14,7 @@ use Rattle.opening.specs.Opening.{refusal, requestId}
 use Rattle.opening.proofs.Rules.{refusal-exactly}
 use Rattle.settings.specs.Settings.{allowed}
 use Rattle.settings.specs.declared.Settings.{Settings}
+use Rattle.profile.specs.Profile.{tp20}
 use Rattle.settings.proofs.Rules.{InRange, allowed-exactly}
 use Rattle.channel.specs.declared.Answer.the-variants.{Good, NotDue}
 use Rattle.open_end.specs.declared.answers.Answer.the-variants.{OutOfRange}
@@ -64,18 +65,18 @@ reply-exactly r = (named, taken)
     taken (inr h) = or-on′ (eqb r 0xD0) (refusal r) (refusal-exactly r .1 h)
 
 -- 01's ranges, "which is never 0x200", and one of the four replies: set exactly so
-pub settable-exactly : (s : Settings) (r : ℕ) → settable s r ≡ true ↔ (InRange s × (s .receive ≢ 0x200) × AReply r)
+pub settable-exactly : (s : Settings) (r : ℕ) → settable s r ≡ true ↔ (InRange tp20 s × (s .receive ≢ 0x200) × AReply r)
 unfolding settable
 settable-exactly s r = (named, taken)
   where
-    named : settable s r ≡ true → InRange s × (s .receive ≢ 0x200) × AReply r
+    named : settable s r ≡ true → InRange tp20 s × (s .receive ≢ 0x200) × AReply r
     named e =
         let first = both (allowed s && not (eqb (s .receive) 0x200)) (isReply r) e in
         let second = both (allowed s) (not (eqb (s .receive) 0x200)) (first .0) in
-        (allowed-exactly s .0 (second .0), eqb-false (s .receive) 0x200 (not-true (eqb (s .receive) 0x200) (second .1)), reply-exactly r .0 (first .1))
+        (allowed-exactly tp20 s .0 (second .0), eqb-false (s .receive) 0x200 (not-true (eqb (s .receive) 0x200) (second .1)), reply-exactly r .0 (first .1))
 
-    taken : InRange s × (s .receive ≢ 0x200) × AReply r → settable s r ≡ true
-    taken h = rw (allowed-exactly s .1 (h .0), ne-eqb (s .receive) 0x200 (h .1), reply-exactly r .1 (h .2))
+    taken : InRange tp20 s × (s .receive ≢ 0x200) × AReply r → settable s r ≡ true
+    taken h = rw (allowed-exactly tp20 s .1 (h .0), ne-eqb (s .receive) 0x200 (h .1), reply-exactly r .1 (h .2))
 
 module _ (c : ControlUnit) (s : Settings) (r : ℕ) where
   -- set: 4 if not closed (B40)
@@ -84,14 +85,14 @@ module _ (c : ControlUnit) (s : Settings) (r : ℕ) where
   set-not-closed h = rw (le-ltb (c .phase) 3 h)
 
   -- then 10, where one of the three fails: nothing changes
-  pub set-out-of-range : c .phase < 3 → (InRange s × (s .receive ≢ 0x200) × AReply r → ⊥)
+  pub set-out-of-range : c .phase < 3 → (InRange tp20 s × (s .receive ≢ 0x200) × AReply r → ⊥)
       → setTo c s r ≡ record { told = record { answer = OutOfRange; said = record { number = 10; done = false; opcode = 0 } }; unit = c }
   unfolding setTo
   set-out-of-range h out =
       either (settable s r) (λ e. absurd (out (settable-exactly s r .0 e))) (λ e. rw (lt-ltb (c .phase) 3 h, e))
 
   -- else 0: closed, nothing due; an A8 or a reply that was due is discarded
-  pub set-leaves : c .phase < 3 → InRange s → s .receive ≢ 0x200 → AReply r → setTo c s r ≡ record { told = plainly Good 0; unit = resting s r }
+  pub set-leaves : c .phase < 3 → InRange tp20 s → s .receive ≢ 0x200 → AReply r → setTo c s r ≡ record { told = plainly Good 0; unit = resting s r }
   unfolding setTo
   set-leaves h k o a = rw (lt-ltb (c .phase) 3 h, settable-exactly s r .1 (k, o, a))
 

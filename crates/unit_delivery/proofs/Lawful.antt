@@ -15,6 +15,7 @@ use Rattle.unit.specs.Record.{isOpen, closedOf, withOpenEnd}
 use Rattle.unit.specs.Calls.{settled, openSent, openTaken, openElapsed, openDue, atEnd}
 use Rattle.unit.proofs.Rules.{sentBy-before, takenBy-before, elapsed-before, buffered-before, arrived-closed, dueOf-closed}
 use Rattle.delivery.specs.Laws.{Carried, Lawful}
+use Rattle.connection_delivery.proofs.Keeps.{Runs, keeps}
 use Rattle.connection_delivery.proofs.Around.{Refuses, Tied, open′, Around, around-lawful}
 use Rattle.unit_delivery.specs.Ends.{unitEnd}
 use Rattle.unit_delivery.proofs.Ends.{sent-open, taken-open, elapsed-open, due-open, arrived-open, buffered-open, carried-at-end}
@@ -34,7 +35,7 @@ module _ (limit : ℕ) where
       }
 
   -- an open unit is around its open end
-  unit-around : (c : ControlUnit) → unitEnd limit .open′ c ≡ true → Around limit (unitEnd limit) c
+  unit-around : (c : ControlUnit) → unitEnd limit .open′ c ≡ true → Around limit Carried (Runs true) (unitEnd limit) c
   unfolding openSent openTaken openElapsed openDue atEnd settled
   unit-around c live =
       let parts = both (isOpen c) (not (eqb (c .settings .receive) requestId)) live in
@@ -52,9 +53,9 @@ module _ (limit : ℕ) where
         times = λ n. rw (elapsed-open c o n);
         hands = λ m. rw (due-open c o m);
         arrives = λ bytes k room. rw (arrived-open c o other limit bytes room, carried-at-end limit c (sorted bytes .kind) bytes room k);
-        buffers = buffered-open c o other limit;
+        buffers = λ bytes k. buffered-open c o other limit bytes;
       }
 
   -- so it is lawful
-  pub unit-lawful : Lawful limit Carried (unitEnd limit) (Tied (unitEnd limit))
-  unit-lawful = around-lawful limit (unitEnd limit) unit-around
+  pub unit-lawful : Lawful limit Carried (unitEnd limit) (Tied (Runs true) (unitEnd limit))
+  unit-lawful = around-lawful limit (keeps limit true) (unitEnd limit) unit-around (λ p f. tt)

@@ -1,6 +1,6 @@
 -- The control unit as an end of `delivery`: each call by the very definition of its contract.
 use Prim.Native.Nat.{ℕ, _≤_}
-use mathlib.Core.Bool.{not, _&&_}
+use mathlib.Core.Bool.{true, not, _&&_}
 use lib.Dec.{eqb}
 use Rattle.telegram.specs.Outgoing.{bytesOf}
 use Rattle.opening.specs.Opening.{requestId}
@@ -44,10 +44,10 @@ unitEnd limit =
       transmits = λ c. c .end .transmit;
     }
 
--- demand 3 of a connection record and a control unit, either end sending, for every limit on lengths that twelve bits can say
+-- demand 3 of a connection record in TP 2.0 and a control unit, either end sending, for every limit on lengths that twelve bits can say
 abbrev pub Demand3WithUnit : Type 0
-Demand3WithUnit = (limit : ℕ) → limit ≤ 4095 → Demand3Holds (connectionEnd limit) (unitEnd limit) × Demand3Holds (unitEnd limit) (connectionEnd limit)
+Demand3WithUnit = (limit : ℕ) → limit ≤ 4095 → Demand3Holds (connectionEnd limit true) (unitEnd limit) × Demand3Holds (unitEnd limit) (connectionEnd limit true)
 
 -- 02, 14, of the two
 abbrev pub BothWaysWithUnit : Type 0
-BothWaysWithUnit = (limit : ℕ) → limit ≤ 4095 → BothWaysHolds (connectionEnd limit) (unitEnd limit)
+BothWaysWithUnit = (limit : ℕ) → limit ≤ 4095 → BothWaysHolds (connectionEnd limit true) (unitEnd limit)

@@ -14,6 +14,7 @@ use Rattle.telegram.specs.Outgoing.{bytesOf}
 use Rattle.opening.specs.Opening.{requestId, refusal}
 use Rattle.opening.proofs.Rules.{refusal-exactly}
 use Rattle.settings.specs.declared.Settings.{Settings}
+use Rattle.profile.specs.Profile.{tp20}
 use Rattle.settings.proofs.Rules.{allowed-exactly}
 use Rattle.connection.specs.declared.Connection.{Connection}
 use Rattle.connection.specs.Record.{requesting}
@@ -48,7 +49,7 @@ module _ (limit : ℕ) {c : Connection} {s : Settings} {u : ControlUnit} {b : Be
   pub ready : Ready s u
   ready =
       let set = settable-exactly (u .settings) (u .reply) .0 (begins .set) in
-      record { allowed′ = opening-good c s (begins .answered) .0; closed = begins .closed; set = allowed-exactly (u .settings) .1 (set .0); other = set .1; one = begins .one }
+      record { allowed′ = opening-good c s (begins .answered) .0; closed = begins .closed; set = allowed-exactly tp20 (u .settings) .1 (set .0); other = set .1; one = begins .one }
 
   -- the C0 is due, and all turns are left
   begun : (Free : ControlUnit → (behind : List Flying) → Type 0) → Stage s u limit Free (turns (u .reply)) (seen limit b [] [])
@@ -147,7 +148,7 @@ module _ (limit : ℕ) (s : Settings) (u : ControlUnit) (ready : Ready s u) wher
   pub free : Freedom limit s u (Acting s u limit) (λ v a. Unit {0})
   free =
       record {
-        begins = record { line = _; tied = open′ (opens s u) opens-live; terms = refl; fits = tt };
+        begins = record { line = _; tied = open′ (opens s u) opens-live tt; terms = refl; fits = tt };
         sends = λ f m p. record { line = _; tied = unit-lawful limit .sends (f .tied) (length m) .tied; terms = send-terms (f .line) limit (length m) ∙ f .terms; fits = f .fits };
         takes = λ f room. record { line = _; tied = unit-lawful limit .takes (f .tied) room .tied; terms = take-terms (f .line) room ∙ f .terms; fits = f .fits };
         times = λ f n. record { line = _; tied = unit-lawful limit .times (f .tied) n .tied; terms = time-terms (f .line) n ∙ f .terms; fits = f .fits };

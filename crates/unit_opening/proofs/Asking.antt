@@ -9,7 +9,7 @@ use Rattle.laws.proofs.Cases.{by-not}
 use Rattle.telegram.specs.Outgoing.{bytesOf}
 use Rattle.telegram.specs.Cutting.{none}
 use Rattle.opening.specs.Opening.{requestId, refusal, replyOf}
-use Rattle.opening.proofs.RoundTrip.{refused-read}
+use Rattle.profile.proofs.Opening.{tp20-refused}
 use Rattle.settings.specs.Settings.{allowed}
 use Rattle.settings.specs.declared.Settings.{Settings}
 use Rattle.channel.specs.declared.Answer.the-variants.{Good, NotDue}
@@ -18,12 +18,12 @@ use Rattle.open_end.specs.Answers.{told}
 use Rattle.connection.specs.declared.Connection.{Connection}
 use Rattle.connection.specs.declared.Answered.{Answered}
 use Rattle.connection.specs.Record.{isClosed, isOpen, closedRecord, requesting, agreeing, listensOn, hears}
-use Rattle.connection.specs.Calls.{gives, marked, shows, handNothing, opening, onReply, arrived, attemptElapsed, elapsed, requestDue, dueOf, sentBy, takenBy}
+use Rattle.connection.specs.Calls.{gives, marked, shows, handNothing, openingAs, opening, onReply, arrived, attemptElapsed, elapsed, requestDue, dueOf, sentBy, takenBy}
 use Rattle.connection_delivery.proofs.Opened.{awaiting}
 
 -- an open answered 0: the settings are allowed, and the C0 is due
 pub opening-good : (c : Connection) (s : Settings) → opening c s .told .said .number ≡ 0 → (allowed s ≡ true) × (opening c s ≡ gives Good (requesting s))
-unfolding opening
+unfolding openingAs
 opening-good c s =
     by-not Opens (isClosed c) (λ n e. absurd (omega (arith, e)))
     (λ n. by-not Opens (allowed s) (λ a e. absurd (omega (arith, e))) (λ a e. (a, refl)))
@@ -67,4 +67,4 @@ pub refusal-arrives : (limit : ℕ) (s : Settings) (left opcode receive transmit
     → arrived limit (awaiting (requesting s) left) (requestId + s .unit) (bytesOf (replyOf opcode receive transmit)) room
     ≡ marked false (record { told = told (Refused opcode); connection = closedRecord })
 unfolding hears listensOn arrived onReply
-refusal-arrives limit s left opcode receive transmit room r = rw (eq-eqb (requestId + s .unit) _ refl, refused-read opcode receive transmit (s .receive) r)
+refusal-arrives limit s left opcode receive transmit room r = rw (eq-eqb (requestId + s .unit) _ refl, tp20-refused opcode receive transmit (s .receive) r)

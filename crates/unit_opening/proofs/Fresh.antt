@@ -30,6 +30,7 @@ use Rattle.delivery.specs.System.Fate.{goes}
 use Rattle.delivery.specs.System.Act.{send, due, arrive}
 use Rattle.delivery.specs.System.Call.{at}
 use Rattle.delivery.specs.Claim.{Along, Fresh}
+use Rattle.profile.specs.Profile.{tp20}
 use Rattle.connection_delivery.proofs.Opened.{allowed-parts, a1-arrives}
 use Rattle.connection_delivery.proofs.Around.{open′}
 use Rattle.unit_delivery.specs.Ends.{unitEnd}
@@ -95,7 +96,7 @@ module _ (limit : ℕ) (s : Settings) (u : ControlUnit) where
         }
       where
         ties : {v : ControlUnit} {behind : List Flying} → Calm s u v behind → Acting s u limit v behind
-        ties (calm k) = record { line = _; tied = open′ (calmAt s u k) (calm-live k); terms = refl; fits = tt }
+        ties (calm k) = record { line = _; tied = open′ (calmAt s u k) (calm-live k) tt; terms = refl; fits = tt }
 
 -- ---- the moment
 
@@ -129,9 +130,9 @@ module _ (limit : ℕ) (s : Settings) (u : ControlUnit) (ready : Ready s u) wher
     unfolding arriving
     fresh-now (before st) e = absurd (false≢true (sym (not-yet st (length nearBuffer)) ∙ e))
     fresh-now (a1-out o w l t (calm k)) e =
-        let p = allowed-parts s (ready .allowed′) in
-        let q = allowed-parts (u .settings) (ready .set) in
-        rw (a1-arrives limit s (ready .allowed′) (u .settings .receive) (ownFields (u .settings)) (q .least) (q .most) w (length nearBuffer))
+        let p = allowed-parts tp20 s (ready .allowed′) in
+        let q = allowed-parts tp20 (u .settings) (ready .set) in
+        rw (a1-arrives limit tp20 s (u .settings .receive) (ownFields (u .settings)) (q .least) (q .most) w (length nearBuffer))
         (record {
           near = record { open′ = refl; sender = refl; receiver = refl; tests = refl; accept = refl; t1 = p .t1; «t_wait» = p .«t_wait» };
           far = record { open′ = calm-live limit s u ready k; sender = refl; receiver = refl; tests = refl; accept = refl; t1 = q .t1; «t_wait» = q .«t_wait» };

@@ -32,6 +32,7 @@ use Rattle.delivery.specs.System.Call.{at}
 use Rattle.delivery.proofs.Directions.{Fits}
 use Rattle.delivery.proofs.Acts.{act-moves}
 use Rattle.connection_delivery.specs.Ends.{connectionEnd}
+use Rattle.connection_delivery.proofs.Keeps.{Runs}
 use Rattle.connection_delivery.proofs.Around.{Tied, open′, closed}
 use Rattle.connection_delivery.proofs.Lawful.{connection-lawful}
 use Rattle.unit_delivery.specs.Ends.{unitEnd}
@@ -73,28 +74,28 @@ nothing-given false r = refl
 
 module _ (limit : ℕ) where
   -- a frame at an active end that is open, or closed by 8
-  arrival-quiet : {r t : ℕ} {c : Connection} {l : Line} → Tied (connectionEnd limit) r t c l → (bytes : List ℕ) (try : Try) → Carried (sorted bytes .kind)
+  arrival-quiet : {r t : ℕ} {c : Connection} {l : Line} → Tied (Runs true) (connectionEnd limit true) r t c l → (bytes : List ℕ) (try : Try) → Carried (sorted bytes .kind)
       → (rest : List Flying) (room : ℕ) → arrivalEnds limit c (record { id = r; bytes = bytes; try = try } ∷ rest) room ≡ []
-  arrival-quiet (open′ c o) bytes try k rest room =
-      let number = connection-lawful limit .arrives (open′ c o) bytes k room .number in
+  arrival-quiet (open′ c o kept) bytes try k rest room =
+      let number = connection-lawful limit true .arrives (open′ c o kept) bytes k room .number in
       let other : eqb (arrived limit c (c .end .receive) bytes room .told .said .number) 11 ≡ false =
       rw number (line-not-refused limit (record { channel = c .end .channel; live = true }) bytes room) in
-      rw (other, o)
+      rw (other, both (isOpen c) (c .profile .tests) o .0)
   arrival-quiet {r} {c = c} (closed f) bytes try k rest room =
       let four : arrived limit c r bytes room .told .said .number ≡ 4 = ap (λ (x : Told Connection). x .number) (f .arrives bytes room) in
       let same : arrived limit c r bytes room .connection ≡ c = ap (λ (x : Told Connection). x .state) (f .arrives bytes room) in
       rw (four, same, not-opened (isOpen c))
 
   -- the first frame of a link
-  link-quiet : {r t : ℕ} {c : Connection} {l : Line} → Tied (connectionEnd limit) r t c l → (link : List Flying) → Fits Carried r link → (room : ℕ) → arrivalEnds limit c link room ≡ []
+  link-quiet : {r t : ℕ} {c : Connection} {l : Line} → Tied (Runs true) (connectionEnd limit true) r t c l → (link : List Flying) → Fits Carried r link → (room : ℕ) → arrivalEnds limit c link room ≡ []
   link-quiet tied [] fits room = refl
   link-quiet {c = c} tied (f ∷ rest) fits room =
       subst (λ (id : ℕ). arrivalEnds limit c (record { id = id; bytes = f .bytes; try = f .try } ∷ rest) room ≡ []) (sym (fits .0))
       (arrival-quiet tied (f .bytes) (f .try) (fits .1) rest room)
 
   -- what a unit that is open, or closed by 8, hands over
-  pub hand-over-quiet : {r t : ℕ} {v : ControlUnit} {l : Line} → Tied (unitEnd limit) r t v l → (m : List ℕ) → handOverEnds v m ≡ []
-  hand-over-quiet (open′ v o) m =
+  pub hand-over-quiet : {r t : ℕ} {v : ControlUnit} {l : Line} → Tied (Runs true) (unitEnd limit) r t v l → (m : List ℕ) → handOverEnds v m ≡ []
+  hand-over-quiet (open′ v o k) m =
       let open-now = both (unitOpen v) (not (eqb (v .settings .receive) requestId)) o .0 in
       let not-closed : unitClosed v ≡ false = le-ltb (v .phase) 3 (omega (arith, ltb-true 5 (v .phase) open-now)) in
       rw (open-now, not-closed)
@@ -107,23 +108,23 @@ module _ (limit : ℕ) (s : Settings) (u : ControlUnit) (b : Bench limit) (l : L
   -- every call leaves two such ends
   pub later-step : (c : Call) → (let b′ = step b c in Later s u limit (b′ .near .state) (b′ .far .state) (b′ .forward) (b′ .backward))
   later-step (at near a) =
-      let w = act-moves limit Carried (connectionEnd limit) (unitEnd limit) (Tied (connectionEnd limit)) (connection-lawful limit) (s .receive) (u .settings .receive) b (l .nearLine) (l .farLine) a (l .nearTied) (l .forwardFits) (l .backwardFits) in
+      let w = act-moves limit Carried (connectionEnd limit true) (unitEnd limit) (Tied (Runs true) (connectionEnd limit true)) (connection-lawful limit true) (s .receive) (u .settings .receive) b (l .nearLine) (l .farLine) a (l .nearTied) (l .forwardFits) (l .backwardFits) in
       record {
         nearLine = w .line;
         farLine = l .farLine;
         nearTied = w .tied;
-        farTied = subst (λ (p : Party (unitEnd limit)). Tied (unitEnd limit) (u .settings .receive) (s .receive) (p .state) (l .farLine)) (sym (w .far′)) (l .farTied);
+        farTied = subst (λ (p : Party (unitEnd limit)). Tied (Runs true) (unitEnd limit) (u .settings .receive) (s .receive) (p .state) (l .farLine)) (sym (w .far′)) (l .farTied);
         nearTerms = acted-terms w ∙ l .nearTerms;
         farTerms = l .farTerms;
         forwardFits = w .forward;
         backwardFits = w .backward;
       }
   later-step (at far a) =
-      let w = act-moves limit Carried (unitEnd limit) (connectionEnd limit) (Tied (unitEnd limit)) (unit-lawful limit) (u .settings .receive) (s .receive) (turned b) (l .farLine) (l .nearLine) a (l .farTied) (l .backwardFits) (l .forwardFits) in
+      let w = act-moves limit Carried (unitEnd limit) (connectionEnd limit true) (Tied (Runs true) (unitEnd limit)) (unit-lawful limit) (u .settings .receive) (s .receive) (turned b) (l .farLine) (l .nearLine) a (l .farTied) (l .backwardFits) (l .forwardFits) in
       record {
         nearLine = l .nearLine;
         farLine = w .line;
-        nearTied = subst (λ (p : Party (connectionEnd limit)). Tied (connectionEnd limit) (s .receive) (u .settings .receive) (p .state) (l .nearLine)) (sym (w .far′)) (l .nearTied);
+        nearTied = subst (λ (p : Party (connectionEnd limit true)). Tied (Runs true) (connectionEnd limit true) (s .receive) (u .settings .receive) (p .state) (l .nearLine)) (sym (w .far′)) (l .nearTied);
         farTied = w .tied;
         nearTerms = l .nearTerms;
         farTerms = acted-terms w ∙ l .farTerms;

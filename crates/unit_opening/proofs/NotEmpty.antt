@@ -5,9 +5,12 @@ use mathlib.Core.List.{List, [], _∷_, _++_}
 use mathlib.Core.Path.{_≡_, refl}
 use Rattle.telegram.specs.Kinds.{badBlock, kindOf}
 use Rattle.opening.specs.Opening.{requestRead, replyRead}
-use Rattle.settings.specs.Settings.{defaults, allowed}
+use Rattle.telegram.specs.Time.{tenthsOf}
+use Rattle.profile.specs.Profile.{within, sortedBy}
+use Rattle.profile.specs.Opening.{requestFor, named, replyFor}
+use Rattle.settings.specs.Settings.{defaults, allowedBy}
 use Rattle.connection.specs.Record.{closedRecord, listensOn, hears}
-use Rattle.connection.specs.Calls.{opening, onReply, onAccept, onAgreeing, arrived, requestDue, dueOf, buffered}
+use Rattle.connection.specs.Calls.{openingAs, opening, onReply, onAccept, onAgreeing, arrived, requestDue, dueOf, buffered}
 use Rattle.unit.specs.Record.{settable, unitDefaults, closedWith}
 use Rattle.unit.specs.Calls.{ends, onRequest, onSetup, onOpening, arrived as unitArrived, dueOf as unitDue, buffered as unitBuffered}
 use Rattle.delivery.specs.System.{Call, run, asking, arriving}
@@ -40,7 +43,7 @@ pub record Ends (reply : ℕ) (forActive forUnit : Outcome) : Type 0 where
 
 -- a proof that computes with these lists of calls opens this, and with it every definition that the calls go through
 unfoldable computed : Unit {0}
-unfolding opening allowed settable badBlock kindOf requestRead replyRead listensOn hears onReply onAccept onAgreeing arrived requestDue dueOf buffered ends onRequest onSetup onOpening unitArrived unitDue unitBuffered asking arriving
+unfolding openingAs allowedBy within tenthsOf requestFor named replyFor sortedBy settable badBlock kindOf requestRead replyRead listensOn hears onReply onAccept onAgreeing arrived requestDue dueOf buffered ends onRequest onSetup onOpening unitArrived unitDue unitBuffered asking arriving
 computed = tt
 
 -- eight calls: both ends are open with blocks of 8, and with each other's IDs

@@ -23,6 +23,7 @@ use Rattle.delivery.specs.System.Call.{at}
 use Rattle.delivery.proofs.Directions.{Fits}
 use Rattle.connection_delivery.specs.Ends.{connectionEnd}
 use Rattle.connection_delivery.proofs.Opened.{awaiting}
+use Rattle.connection_delivery.proofs.Keeps.{Runs}
 use Rattle.connection_delivery.proofs.Around.{Tied}
 use Rattle.unit_delivery.specs.Ends.{unitEnd}
 use Rattle.unit_opening.specs.Opening.{Outcome, opened, refused, roundTrip}
@@ -151,8 +152,8 @@ module _ (s : Settings) (u : ControlUnit) where
   pub record Later (limit : ℕ) (c : Connection) (v : ControlUnit) (forward backward : List Flying) : Type 0 where
     pub nearLine : Line
     pub farLine : Line
-    pub nearTied : Tied (connectionEnd limit) (s .receive) (u .settings .receive) c nearLine
-    pub farTied : Tied (unitEnd limit) (u .settings .receive) (s .receive) v farLine
+    pub nearTied : Tied (Runs true) (connectionEnd limit true) (s .receive) (u .settings .receive) c nearLine
+    pub farTied : Tied (Runs true) (unitEnd limit) (u .settings .receive) (s .receive) v farLine
     pub nearTerms : termsOf nearLine ≡ agreed s (ownFields (u .settings)) .terms
     pub farTerms : termsOf farLine ≡ agreed (u .settings) (ownFields s) .terms
     pub forwardFits : Fits Carried (u .settings .receive) forward
@@ -161,7 +162,7 @@ module _ (s : Settings) (u : ControlUnit) where
   -- the unit has been open: tied to a channel on the agreed terms, with frames of that channel behind the A1
   pub record Acting (limit : ℕ) (v : ControlUnit) (behind : List Flying) : Type 0 where
     pub line : Line
-    pub tied : Tied (unitEnd limit) (u .settings .receive) (s .receive) v line
+    pub tied : Tied (Runs true) (unitEnd limit) (u .settings .receive) (s .receive) v line
     pub terms : termsOf line ≡ agreed (u .settings) (ownFields s) .terms
     pub fits : Fits Carried (s .receive) behind
 

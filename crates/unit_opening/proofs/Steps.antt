@@ -30,7 +30,9 @@ use Rattle.delivery.specs.System.Side.{near, far}
 use Rattle.delivery.specs.System.Fate.{goes, stays, lost}
 use Rattle.delivery.specs.System.Act.{send, take, time, due, arrive}
 use Rattle.delivery.specs.System.Call.{at}
-use Rattle.connection_delivery.proofs.Opened.{allowed-parts, awaiting, hands-c0, d0-arrives, hands-a0, a1-arrives}
+use Rattle.profile.specs.Profile.{tp20}
+use Rattle.profile.proofs.Opening.{tp20-positive, tp20-requests}
+use Rattle.connection_delivery.proofs.Opened.{allowed-parts, eleven-bits, awaiting, hands-c0, d0-arrives, hands-a0, a1-arrives}
 use Rattle.connection_delivery.proofs.Around.{open′}
 use Rattle.unit_opening.specs.Opening.{Outcome, handOverEnds, arrivalEnds, WithinTE, Bench, Proper, activeNow, unitNow}
 use Rattle.unit_opening.proofs.Asking.{sent-shut, taken-shut, Asks, for-d0, for-a1, asks-elapsed, awaiting-due, awaiting-elapsed, refusal-arrives}
@@ -63,7 +65,7 @@ module _ (limit : ℕ) (s : Settings) (u : ControlUnit) (ready : Ready s u) wher
       ≡ marked false (gives Good (agrees s u))
   d0-met wait room =
       subst (λ (n : ℕ). arrived limit (awaiting (requesting s) wait) (requestId + n) (bytesOf (replyOf 0xD0 (s .receive) (u .settings .receive))) room ≡ marked false (gives Good (agrees s u)))
-      (ready .one) (d0-arrives limit s (ready .allowed′) (u .settings .receive) (allowed-parts (u .settings) (ready .set) .receive) wait room)
+      (ready .one) (d0-arrives limit tp20 s (u .settings .receive) _ (tp20-positive (s .receive) (u .settings .receive) (eleven-bits s (ready .allowed′)) (eleven-bits (u .settings) (ready .set))) wait room)
 
   pub refusal-met : (wait room : ℕ) → Negative s u
       → arrived limit (awaiting (requesting s) wait) (requestId + u .settings .unit) (bytesOf (replyOf (u .reply) (s .receive) (u .settings .receive))) room
@@ -195,14 +197,14 @@ module _ (limit : ℕ) (s : Settings) (u : ControlUnit) (ready : Ready s u) {Fre
 
     near-due : {left : List Call} {p : Place} → Before s u left p → Left left (at near due) (asking (bench p)) p
     unfolding asking
-    near-due (c0-due o) = rw (hands-c0 limit s (ready .allowed′) (lent forth)) (next (before (c0-out o (s .«t_e») (allowed-parts s (ready .allowed′) .«t_e») _)))
+    near-due (c0-due o) = rw (hands-c0 limit tp20 s (lent forth), tp20-requests (s .unit) (s .receive)) (next (before (c0-out o (s .«t_e») (allowed-parts tp20 s (ready .allowed′) .«t_e») _)))
     near-due (c0-out o w l t) = near-idle (before (c0-out o w l t)) refl (awaiting-due (for-d0 s) w (lent forth))
     near-due (refusal-due o w l) = near-idle (before (refusal-due o w l)) refl (awaiting-due (for-d0 s) w (lent forth))
     near-due (refusal-out o w l t) = near-idle (before (refusal-out o w l t)) refl (awaiting-due (for-d0 s) w (lent forth))
     near-due (both-refused o) = near-idle (before (both-refused o)) refl (dueOf-closed closedRecord refl (lent forth) refl)
     near-due (d0-due o w l) = near-idle (before (d0-due o w l)) refl (awaiting-due (for-d0 s) w (lent forth))
     near-due (d0-out o w l t) = near-idle (before (d0-out o w l t)) refl (awaiting-due (for-d0 s) w (lent forth))
-    near-due (a0-due o) = rw (hands-a0 limit s (ready .allowed′) (u .settings .receive) (lent forth)) (next (before (a0-out o (s .«t_e») (allowed-parts s (ready .allowed′) .«t_e») _)))
+    near-due (a0-due o) = rw (hands-a0 limit tp20 s (u .settings .receive) (lent forth)) (next (before (a0-out o (s .«t_e») (allowed-parts tp20 s (ready .allowed′) .«t_e») _)))
     near-due (a0-out o w l t) = near-idle (before (a0-out o w l t)) refl (awaiting-due (for-a1 s (u .settings .receive)) w (lent forth))
     near-due (a1-due o w l) = near-idle (before (a1-due o w l)) refl (awaiting-due (for-a1 s (u .settings .receive)) w (lent forth))
 
@@ -243,7 +245,7 @@ module _ (limit : ℕ) (s : Settings) (u : ControlUnit) (ready : Ready s u) {Fre
     far-arrive : {left : List Call} {p : Place} → Before s u left p → Left left (at far (arrive goes)) (turned (meeting goes (p .forward) (turned (bench p)))) p
     unfolding arriving
     far-arrive (c0-due o) = kept refl (before (c0-due o))
-    far-arrive (c0-out o w l t) = rw (c0-arrives u (s .receive) limit (length farBuffer) (ready .closed) (ready .one) (allowed-parts s (ready .allowed′) .receive)) (next (replies o w l))
+    far-arrive (c0-out o w l t) = rw (c0-arrives u (s .receive) limit (length farBuffer) (ready .closed) (ready .one) (eleven-bits s (ready .allowed′))) (next (replies o w l))
     far-arrive (refusal-due o w l) = kept refl (before (refusal-due o w l))
     far-arrive (refusal-out o w l t) = kept refl (before (refusal-out o w l t))
     far-arrive (both-refused o) = kept refl (before (both-refused o))
@@ -251,7 +253,7 @@ module _ (limit : ℕ) (s : Settings) (u : ControlUnit) (ready : Ready s u) {Fre
     far-arrive (d0-out o w l t) = kept refl (before (d0-out o w l t))
     far-arrive (a0-due o) = kept refl (before (a0-due o))
     far-arrive (a0-out o w l t) =
-        let own = allowed-parts s (ready .allowed′) in
+        let own = allowed-parts tp20 s (ready .allowed′) in
         rw (a0-arrives u (s .receive) (ownFields s) limit (length farBuffer) (ready .other) (own .least) (own .most)) (next (before (a1-due o w l)))
     far-arrive (a1-due o w l) = kept refl (before (a1-due o w l))
 
@@ -287,13 +289,13 @@ module _ (limit : ℕ) (s : Settings) (u : ControlUnit) (ready : Ready s u) {Fre
         a1-opens : Moved left-one (at near (arrive goes)) (seen limit (meeting goes (a1 s u t ∷ behind) (bench under-way)) (arrivalEnds limit (under-way .active) (a1 s u t ∷ behind) (length nearBuffer)) (unitOpened s u ∷ []))
         unfolding arriving
         a1-opens =
-            let own = allowed-parts (u .settings) (ready .set) in
+            let own = allowed-parts tp20 (u .settings) (ready .set) in
             let acts = freedom .ties free in
-            rw (a1-arrives limit s (ready .allowed′) (u .settings .receive) (ownFields (u .settings)) (own .least) (own .most) wait (length nearBuffer))
+            rw (a1-arrives limit tp20 s (u .settings .receive) (ownFields (u .settings)) (own .least) (own .most) wait (length nearBuffer))
             (next (later o (record {
               nearLine = _;
               farLine = acts .line;
-              nearTied = open′ (opened (agrees s u) (ownFields (u .settings))) refl;
+              nearTied = open′ (opened (agrees s u) (ownFields (u .settings))) refl tt;
               farTied = acts .tied;
               nearTerms = refl;
               farTerms = acts .terms;

@@ -110,7 +110,7 @@ pub data Subsequence : List Call → List Call → Type 0 where
 module _ (limit : ℕ) where
   -- near the active end, far the unit; only lengths of messages know the limit
   abbrev pub Bench : Type 0
-  Bench = System (connectionEnd limit) (unitEnd limit)
+  Bench = System (connectionEnd limit true) (unitEnd limit)
 
   -- what the active opening ends with in this call
   abbrev pub activeNow : Bench → Call → List Outcome

@@ -21,6 +21,7 @@ use Rattle.unit.specs.declared.Answered.{Answered}
 use Rattle.unit.specs.declared.Arrived.{Arrived}
 use Rattle.unit.specs.Calls.{marked, ends, onRequest, onSetup, onOpening, atEnd, onOpen, arrived, buffered}
 use Rattle.open_rows.specs.Tables.{toldBy}
+use Rattle.open_rows.specs.Records.{tp20Numbers}
 use Rattle.open_rows.specs.Rows.{isSetup, noMessage}
 use Rattle.open_rows.proofs.Same.{opened-same, block-same}
 use Rattle.open_rows.proofs.Bytes.{Only, telegram, by-kind, data-unpadded, padded-eight, setup-unpadded}
@@ -74,7 +75,7 @@ module _ (limit : ℕ) (c : ControlUnit) (id : ℕ) (s b : List ℕ) where
         (λ k. rw (telegram k, k .disconnect, k .setup, setup-unpadded s (k .setup))
         (by (Makes (answers-told _ false) _) (isReplying c) (λ e. rw e) (λ e. rw e
         (by (Makes (answers-told _ false) _) (badBlock (fields s .block)) (λ z. rw (block-same s z))
-        (λ z. rw (shut, block-same s z, opened-same (c .settings) s))))))
+        (λ z. rw (shut, block-same s z, opened-same tp20Numbers (c .settings) s))))))
         (λ k. rw (telegram k, k .disconnect, k .setup, padded-eight s (k .data′)))
         (λ k. rw (telegram k)))
 
@@ -88,8 +89,8 @@ module _ (limit : ℕ) (c : ControlUnit) (id : ℕ) (s b : List ℕ) where
           rw (req, closed, same, open′, out, telegram k, k .data′, k .ack, k .test, k .break, k .disconnect, k .setup, k .accept, setup-unpadded s (k .setup))
           (by (Makes (answers-told _ false) _) (badBlock (fields s .block)) (λ z. rw (block-same s z)) (λ z. rw (block-same s z)
           (by-not (Makes (answers-told _ false) _) (noMessage (c .end .channel))
-          (λ i. rw (i, opened-same (c .settings) s))
-          (λ i. rw (i, opened-same (c .settings) s)))))
+          (λ i. rw (i, opened-same tp20Numbers (c .settings) s))
+          (λ i. rw (i, opened-same tp20Numbers (c .settings) s)))))
 
       -- another telegram
       other-told : isSetup s ≡ false → tells (buffered limit c id s b) (marked (sorted s .padded) (atEnd limit c (sorted s .kind) s (length b))) ≡ tabled

@@ -17,7 +17,8 @@ use Rattle.unit.specs.declared.TakeStep.{TakeStep}
 use Rattle.unit.specs.Record.{settable, isReply as replies}
 use Rattle.unit.specs.Calls.{setTo, openElapsed, elapsed, openDue, dueOf, openSent, sentBy, openTaken, takenBy, closed}
 use Rattle.open_rows.specs.Tables.{toldBy}
-use Rattle.open_rows.specs.Rows.{inRange}
+use Rattle.open_rows.specs.Records.{tp20Numbers}
+use Rattle.open_rows.specs.Rows.{inRangeOf}
 use Rattle.open_rows.proofs.Words.{refusal-byte}
 use Rattle.open_rows.proofs.Same.{range-same}
 use Rattle.open_rows.proofs.Calls.{open-time, open-due, open-send, open-take}
@@ -39,9 +40,9 @@ none-refuses true false r = refl
 none-refuses false q r = refl
 
 -- row 10 asks what may be set
-set-same : (s : Settings) (reply : ℕ) → (not (inRange s) || eqb (s .receive) 0x200 || not (isReply reply)) ≡ not (settable s reply)
+set-same : (s : Settings) (reply : ℕ) → (not (inRangeOf tp20Numbers s) || eqb (s .receive) 0x200 || not (isReply reply)) ≡ not (settable s reply)
 unfolding settable
-set-same s reply = rw (range-same s, refusal-byte reply) (none-refuses (allowed s) (eqb (s .receive) 0x200) (replies reply))
+set-same s reply = rw (range-same tp20Numbers s, refusal-byte reply) (none-refuses (allowed s) (eqb (s .receive) 0x200) (replies reply))
 
 pub set-told : (c : ControlUnit) (s : Settings) (reply : ℕ) → setSays c s reply ≡ toldBy (setTable c s reply)
 unfolding setTo

@@ -1,6 +1,6 @@
 -- The records of a control unit, field by field: closed, asked and about to open, and what it is to change one part of one.
 use Prim.Native.Nat.{ℕ}
-use mathlib.Core.Bool.{Bool}
+use mathlib.Core.Bool.{Bool, true}
 use lib.Dec.{ltb, eqb}
 use Rattle.laws.specs.If.{if_then_else_}
 use Rattle.settings.specs.declared.Settings.{Settings}
@@ -66,7 +66,7 @@ asked c receive =
 -- an A0 of this block size and T3: the A1 is due; "numbers at 0, nothing received or due left from before"
 abbrev pub accepting : ControlUnit → (block t3 : ℕ) → ControlUnit
 accepting c block t3 =
-    (let end : OpenEnd = record { transmit = c .end .transmit; receive = c .settings .receive; channel = freshChannel (agreedBy (c .settings) block t3) } in
+    (let end : OpenEnd = record { transmit = c .end .transmit; receive = c .settings .receive; channel = freshChannel (agreedBy true (c .settings) block t3) } in
     record { phase = 5; reply = c .reply; settings = c .settings; end = end })
 
 -- a record at another phase, and nothing else changed

@@ -12,8 +12,8 @@ use Rattle.settings.specs.declared.Settings.{Settings}
 use Rattle.open_end.specs.declared.Frame.{Frame}
 use Rattle.open_end.specs.declared.answers.Said.{Said}
 use Rattle.open_rows.specs.Tables.{plain, row, Table, always, _orElse_}
-use Rattle.open_rows.specs.Records.{onSender, onReceiver}
-use Rattle.open_rows.specs.Rows.{isTelegram, isDisconnect, isSetup, isAccept, isPadded, idOf, noTestOut, blockOut, outOfPlace, changesNothing, notReadyTooOften, noMessage, isWaiting, waitsUntaken, shortLater, broken, shortFirst, askedForAck, thrownAway, finishes, channelAfter, bufferAfter, inRange, repeatsUsedUp, testsUsedUp, channelLater, hands, handsNone, single, sixBytes, testDue, testOut, acceptOut, ackOut, ackByte, dataDue, dataOf, dataOut, messageAccepted, messageTaken}
+use Rattle.open_rows.specs.Records.{tp20Numbers, onSender, onReceiver}
+use Rattle.open_rows.specs.Rows.{isTelegram, isDisconnect, isSetup, isAccept, isPadded, idOf, noTestOut, blockOut, outOfPlace, changesNothing, notReadyTooOften, noMessage, isWaiting, waitsUntaken, shortLater, broken, shortFirst, askedForAck, thrownAway, finishes, channelAfter, bufferAfter, inRangeOf, repeatsUsedUp, testsUsedUp, channelLater, hands, handsNone, single, sixBytes, testDue, testOut, acceptOut, ackOut, ackByte, dataDue, dataOf, dataOut, messageAccepted, messageTaken}
 use Rattle.unit.specs.declared.ControlUnit.{ControlUnit}
 use Rattle.unit.specs.Calls.{setTo, arrived, buffered, elapsed, dueOf, sentBy, takenBy, closed}
 use Rattle.unit_rows.specs.Records.{isClosed, isLeaving, isRefusing, isReplying, isAccepting, isOpen, closedWith, closedRecord, leaving, asked, accepting, atPhase, onChannel}
@@ -109,11 +109,11 @@ arriveSays limit c id s b =
 abbrev pub isReply : ℕ → Bool
 isReply opcode = eqb opcode 0xD0 || leb 0xD6 opcode && leb opcode 0xD8
 
--- 4 if not closed; row 10 by 01's ranges, by "its receive ID, which is never 0x200 (else 10)", and by any other reply; what was due is discarded
+-- 4 if not closed; row 10 by 01's ranges, which are TP 2.0's, by "its receive ID, which is never 0x200 (else 10)", and by any other reply; what was due is discarded
 abbrev pub setTable : ControlUnit → Settings → (reply : ℕ) → Table ControlUnit
 setTable c s reply =
     row (not (isClosed c)) 4 c
-    orElse row (not (inRange s) || eqb (s .receive) 0x200 || not (isReply reply)) 10 c
+    orElse row (not (inRangeOf tp20Numbers s) || eqb (s .receive) 0x200 || not (isReply reply)) 10 c
     orElse always (plain 0) (closedWith s reply)
 
 -- what a set says and leaves

@@ -1,3 +1,4 @@
+use borrow.Author.Tests.{ne-eqb}
 use Rattle.laws.proofs.Branches.{branches}
 use Rattle.connection.specs.Calls.{arrived, buffered}
 use borrow.Author.Needs.{needs}
@@ -27,4 +28,7 @@ arrive-spec =
     (λ c κs. search needs)
     (λ c κs. search needs)
     (λ c. search needs)
-    (λ c. (rw (c .marked5 .ensures, c .before .before .before .on-open .ensures .0, c .before .before .before .before .before .before .sort .ensures) (search branches), rw (c .before .before .before .on-open .ensures .1, c .before .before .before .before .before .before .sort .ensures) (search branches))))
+    (λ c. (
+      rw (c .marked5 .ensures, c .before .before .before .on-open .ensures .0, c .before .before .before .before .before .before .sort .ensures, ne-eqb _ _ (c .before .before .before .before .before .before .before .before .before .before .if1 .left), ← c .before .before .before .before .before .before .before .before .before .hears .ensures, c .before .before .before .before .before .before .before .before .if2 .left, ne-eqb _ _ (c .before .before .before .before .before .before .before .if3 .left), ne-eqb _ _ (c .before .before .before .before .before .if4 .left)),
+      rw (c .before .before .before .on-open .ensures .1, c .before .before .before .before .before .before .sort .ensures, ne-eqb _ _ (c .before .before .before .before .before .before .before .before .before .before .if1 .left), ← c .before .before .before .before .before .before .before .before .before .hears .ensures, c .before .before .before .before .before .before .before .before .if2 .left, ne-eqb _ _ (c .before .before .before .before .before .before .before .if3 .left), ne-eqb _ _ (c .before .before .before .before .before .if4 .left)),
+    )))

@@ -9,4 +9,5 @@ closed-spec =
     (λ c κs. search needs)
     (λ c κs. search needs)
     (λ c κs. search needs)
-    (λ c. rw (c .unopened .ensures, c .before .no-attempt .ensures, c .before .before .default .ensures)))
+    (λ c κs. search needs)
+    (λ c. rw (c .unopened .ensures, c .before .no-attempt .ensures, c .before .before .default .ensures, c .before .before .before .tp20 .ensures)))

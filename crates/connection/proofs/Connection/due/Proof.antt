@@ -13,7 +13,7 @@ due-spec =
     (λ c. rw (c .closed-due .ensures) (search branches))
     (λ c κs. search needs)
     (λ c κs. search needs)
-    (λ c. rw (c .request-due .ensures, c .before .write-request .ensures) (search branches))
+    (λ c. rw (c .request-due .ensures, c .before .request-to .ensures) (search branches))
     (λ c κs. search needs)
     (λ c κs. search needs)
     (λ c κs. search needs)

@@ -1,4 +1,3 @@
-use Rattle.laws.proofs.Branches.{branches}
 use mathlib.Core.Path.{sym}
 use borrow.Author.Tests.{ne-eqb}
 use Rattle.connection.specs.Record.{listensOn, hears}
@@ -12,7 +11,6 @@ hears-spec =
     tie.close
     (tie.spec
     (λ c. sym (rw (c .if1 .taken)))
-    (λ c. search needs)
-    (λ c. search needs)
-    (λ c. sym (rw (ne-eqb _ _ (c .before .if1 .left), c .if2 .taken)))
+    (λ c κs. search needs)
+    (λ c. rw (c .answers-on .ensures, ne-eqb _ _ (c .before .before .if1 .left), c .before .if2 .taken))
     (λ c. sym (rw (ne-eqb _ _ (c .before .if1 .left), ne-eqb _ _ (c .if2 .left)))))

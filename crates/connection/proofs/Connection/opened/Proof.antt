@@ -9,4 +9,5 @@ opened-spec =
     (λ c κs. search needs)
     (λ c κs. search needs)
     (λ c κs. search needs)
-    (λ c. rw (c .fresh .ensures, c .before .agree .ensures, c .before .before .no-attempt .ensures)))
+    (λ c κs. search needs)
+    (λ c. rw (c .fresh .ensures, c .before .agree .ensures, c .before .before .used-by .ensures, c .before .before .before .no-attempt .ensures)))
