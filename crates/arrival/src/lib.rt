@@ -2,6 +2,8 @@
 //
 // Telegrams come already sorted. Data and Acks go to their half; a frame answered 0 starts the test interval again. Where the
 // peer leaves (`Disconnected`) or the channel is lost (`UsedUp`) the answer says so, for the record above to close.
+#![tactic(auto)]
+
 ghost use Rattle.std.specs.Prelude.{◌≡◌, length};
 ghost use Rattle.telegram.specs.Cutting.{longest};
 ghost use Rattle.arrival.specs.Arrived.{data_answer, ack_answer, answered, on_data, on_ack, on_test, on_break, on_accept, arrived, buffered_by};

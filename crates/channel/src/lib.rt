@@ -4,6 +4,8 @@
 // `arrival::arrive`, a free function in a crate of its own, so that each of the two is checked in a short time. Where the
 // repeats or tests are used up (`UsedUp`) or the peer leaves (`Disconnected`) the answer says so, for the record above to
 // close.
+#![tactic(auto)]
+
 ghost use Rattle.std.specs.Prelude.{◌≡◌};
 ghost use Rattle.telegram.specs.Cutting.{longest};
 ghost use Rattle.channel.specs.Numbers.{plain, said};
@@ -17,7 +19,7 @@ use telegram::time::less;
 
 // What was agreed and set: the test interval (0 is no tests) in tenths of a millisecond, the terms of sending, the unanswered
 // tests allowed, and the fields of our own A0 and A1.
-#[derive(Drop)]
+#[derive(Clone, Copy)]
 pub struct Parameters {
     pub interval: u32,
     pub terms: Terms,
@@ -26,7 +28,7 @@ pub struct Parameters {
 }
 
 // The state of the tests. A timer at 0 does not run.
-#[derive(Drop)]
+#[derive(Clone, Copy)]
 pub struct Tests {
     // What is left of the wait for an A1 (own T1).
     pub wait: u32,
@@ -41,7 +43,7 @@ pub struct Tests {
 }
 
 // The channel. Its calls stand below, but for the arrival of a telegram: `arrival::arrive`.
-#[derive(Drop)]
+#[derive(Clone, Copy)]
 pub struct Channel {
     pub sender: Sender,
     pub tests: Tests,
@@ -52,7 +54,7 @@ pub struct Channel {
 }
 
 // What a call is answered with.
-#[derive(Drop)]
+#[derive(Clone, Copy)]
 pub enum Answer {
     // As asked.
     Good,
@@ -79,7 +81,7 @@ pub enum Answer {
 
 // What an answer says: its number in the protocol's table, whether it says that the message in sending is done, and whether
 // the peer has disconnected.
-#[derive(Drop)]
+#[derive(Clone, Copy)]
 pub struct Said {
     pub number: u8,
     pub done: bool,
@@ -87,14 +89,14 @@ pub struct Said {
 }
 
 // What a call answers, and the channel that it leaves.
-#[derive(Drop)]
+#[derive(Clone, Copy)]
 pub struct Answered {
     pub answer: Answer,
     pub channel: Channel,
 }
 
 // A telegram to hand over, if one is given; else no bytes.
-#[derive(Drop)]
+#[derive(Clone, Copy)]
 pub struct Due {
     pub answer: Answer,
     pub given: bool,

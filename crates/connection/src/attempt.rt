@@ -3,7 +3,7 @@ ghost use Rattle.std.specs.Prelude.{◌≡◌};
 ghost use Rattle.connection.specs.Record.{no_attempt, new_attempt};
 
 // What is noted of it. A timer at 0 does not run.
-#[derive(Drop)]
+#[derive(Clone, Copy)]
 pub struct Attempt {
     // What is left of the wait for the reply (T_E).
     pub wait: u32,

@@ -3,6 +3,8 @@
 //
 // Every call is good in every state and for every byte: what is not due, not well formed or not possible is refused by its
 // number in the protocol's table; a refusal changes the record only as the table says, and never the buffer.
+#![tactic(auto)]
+
 ghost use Rattle.std.specs.Prelude.{◌≡◌, length};
 ghost use Rattle.telegram.specs.Cutting.{longest};
 ghost use Rattle.opening.specs.declared.Reply.TheVariants.{Positive, Refused as RefusedBy};
@@ -33,7 +35,7 @@ pub const AGREEING: u8 = 2;
 pub const OPEN: u8 = 3;
 
 // The record. The order of the fields, here and in the parts of the channel, is for speed (docs/PERFORMANCE.md).
-#[derive(Drop)]
+#[derive(Clone, Copy)]
 pub struct Connection {
     pub phase: u8,
     // Closed, with one A8 due.
@@ -48,7 +50,7 @@ pub struct Connection {
 }
 
 // What a call tells, and the record that it leaves.
-#[derive(Drop)]
+#[derive(Clone, Copy)]
 pub struct Answered {
     pub told: Told,
     pub connection: Connection,
@@ -56,7 +58,7 @@ pub struct Answered {
 
 // What a frame that arrives tells, whether its telegram is padded, and the record that it leaves. The mark is false with the
 // numbers 1 and 3, and with a closed record's 4.
-#[derive(Drop)]
+#[derive(Clone, Copy)]
 pub struct Arrived {
     pub told: Told,
     pub padded: bool,
@@ -64,7 +66,7 @@ pub struct Arrived {
 }
 
 // A frame to hand over, if one is given; else ID 0 and no bytes.
-#[derive(Drop)]
+#[derive(Clone, Copy)]
 pub struct Due {
     pub told: Told,
     pub given: bool,
@@ -73,7 +75,7 @@ pub struct Due {
 }
 
 // What taking a message comes to: where it is shown, len is its declared length and flags are its flags, and else both are 0.
-#[derive(Drop)]
+#[derive(Clone, Copy)]
 pub struct TakeStep {
     pub told: Told,
     pub len: usize,
@@ -82,7 +84,7 @@ pub struct TakeStep {
 }
 
 // A message taken: the first part of the lent buffer, and nothing of it where none is shown; its flags, and 0 there.
-#[derive(Drop)]
+#[derive(Clone, Copy)]
 pub struct Taken<'a> {
     pub told: Told,
     pub flags: u16,

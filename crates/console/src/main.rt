@@ -1,6 +1,8 @@
 // A connection driven by hand: each line of standard input is a call of the record, and each answer is a line of standard
 // output, written before the next line is waited for. A line that is no call answers "error line N" and changes nothing.
 // An answer that cannot be written ends the program.
+#![tactic(auto)]
+
 use connection::{Answered, Arrived, Connection, Due, TakeStep};
 use dialogue::answers::Carried;
 use dialogue::calls::{Call, read_call};
@@ -13,7 +15,7 @@ use open_end::shown;
 use text::writing;
 
 // What is kept from line to line, beside the buffers that main makes.
-#[derive(Drop)]
+#[derive(Clone, Copy)]
 struct Console {
     connection: Connection,
     session: Session,

@@ -28,14 +28,14 @@ use text::{reading, writing};
 const MOST: u64 = 1000000;
 
 // What a line asks for.
-#[derive(Drop)]
+#[derive(Clone, Copy)]
 enum Asked {
     Run { seed: u64, calls: u64 },
     Wrong,
 }
 
 // Two ends: the one that is called, and the other.
-#[derive(Drop)]
+#[derive(Clone, Copy)]
 struct Bench {
     this: End,
     other: End,
@@ -215,7 +215,7 @@ impl Bench {
 }
 
 // What is said of a run: of each direction the claim that does not hold, or 0, and the counts; and what both have in common.
-#[derive(Drop)]
+#[derive(Clone, Copy)]
 struct Report {
     near: Sent,
     far: Sent,

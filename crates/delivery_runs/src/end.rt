@@ -54,7 +54,7 @@ const ACCEPTED: u64 = 5;
 
 // How many messages of an end were accepted, have been complete at the other end, were handed out there, are done, were given
 // up, and were given up and handed out.
-#[derive(Drop)]
+#[derive(Clone, Copy)]
 pub(crate) struct Sent {
     pub(crate) accepted: u64,
     pub(crate) complete: u64,
@@ -65,7 +65,7 @@ pub(crate) struct Sent {
 }
 
 // What became of an end's frames, and how it was lost.
-#[derive(Drop)]
+#[derive(Clone, Copy)]
 pub(crate) struct Tally {
     pub(crate) lost: u64,
     pub(crate) repeated: u64,
@@ -78,7 +78,7 @@ pub(crate) struct Tally {
     pub(crate) idle: u64,
 }
 
-#[derive(Drop)]
+#[derive(Clone, Copy)]
 pub(crate) struct End {
     channel: Channel,
     // 8 was not answered yet.

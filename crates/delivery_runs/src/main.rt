@@ -14,6 +14,8 @@
 //     t        the far end's message is taken
 //
 // Any other letter acts as f.
+#![tactic(auto)]
+
 ghost use Rattle.std.specs.Prelude.{◌<◌, ◌≤◌, length};
 
 use crate::end::arrived;
@@ -36,13 +38,13 @@ const WAIT: u32 = 1000;
 const HOLD: u32 = 2000;
 
 // A link that holds at most one frame.
-#[derive(Drop)]
+#[derive(Clone, Copy)]
 struct Link {
     full: bool,
     payload: Payload,
 }
 
-#[derive(Drop)]
+#[derive(Clone, Copy)]
 struct Ends {
     near: Channel,
     far: Channel,

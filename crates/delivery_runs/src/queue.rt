@@ -4,7 +4,7 @@ use telegram::payload::Payload;
 const ROOM: usize = 8;
 
 // The frames stand in a ring, from the first on.
-#[derive(Drop)]
+#[derive(Clone, Copy)]
 pub(crate) struct Queue {
     pub(crate) first: usize,
     pub(crate) count: usize,

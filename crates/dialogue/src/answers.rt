@@ -9,7 +9,7 @@ use text::writing;
 
 // What an answer says, and what it carries: the mark of a padded telegram; a frame, if one is given; a message's flags, its
 // bytes being lent.
-#[derive(Drop)]
+#[derive(Clone, Copy)]
 pub struct Carried {
     pub said: Said,
     pub padded: bool,

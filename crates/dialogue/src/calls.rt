@@ -7,7 +7,7 @@ use crate::words::{behind_word, can_id, letters, octets, only_number, word};
 use text::reading::{Bytes, Number};
 
 // What a line asks for. Bytes that it gives stand elsewhere, and here is their count.
-#[derive(Drop)]
+#[derive(Clone, Copy)]
 pub enum Call {
     // A blank line or a comment.
     Nothing,

@@ -3,6 +3,8 @@
 //
 // A line goes this way: it is read (`lines`), understood (`calls`, and `places` for a table, by `words`, `numbers` and `rows`),
 // and its answer is written (`answers`) and said (`session`).
+#![tactic(auto)]
+
 pub mod answers;
 pub mod calls;
 pub mod lines;

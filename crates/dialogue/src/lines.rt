@@ -5,14 +5,14 @@ ghost use Rattle.dialogue.specs.Lines.{without_return, LineRead};
 use text::writing;
 
 // A line that was read: how many characters it has, and whether the input ended with it.
-#[derive(Drop)]
+#[derive(Clone, Copy)]
 pub struct Line {
     pub fill: usize,
     pub ended: bool,
 }
 
 // What reading one character finds.
-#[derive(Drop)]
+#[derive(Clone, Copy)]
 enum Read {
     Character(u8),
     End,

@@ -7,7 +7,7 @@ use text::reading;
 use text::reading::Number;
 
 // Numbers that are read one after another.
-#[derive(Drop)]
+#[derive(Clone, Copy)]
 pub struct Numbers {
     // The place behind the last word.
     pub at: usize,
@@ -20,14 +20,14 @@ pub struct Numbers {
 }
 
 // The settings that eleven words give, and how they were read.
-#[derive(Drop)]
+#[derive(Clone, Copy)]
 pub struct Given {
     pub settings: Settings,
     pub numbers: Numbers,
 }
 
 // The settings that an opening asks for.
-#[derive(Drop)]
+#[derive(Clone, Copy)]
 pub enum Opening {
     Wrong,
     With(Settings),

@@ -8,7 +8,7 @@ use text::reading;
 use text::reading::Number;
 
 // A call, and the place that it names, if it names one; else 0.
-#[derive(Drop)]
+#[derive(Clone, Copy)]
 pub struct Asked {
     pub named: bool,
     pub place: u8,

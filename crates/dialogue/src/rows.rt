@@ -10,14 +10,14 @@ use profile::Profile;
 use settings::Settings;
 
 // The row of TP 1.6 that a word names.
-#[derive(Drop)]
+#[derive(Clone, Copy)]
 pub enum Row {
     Unknown,
     Of(Profile),
 }
 
 // What an opening in TP 1.6 asks for.
-#[derive(Drop)]
+#[derive(Clone, Copy)]
 pub enum Opening16 {
     Wrong,
     As {

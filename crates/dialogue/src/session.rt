@@ -9,7 +9,7 @@ use open_end::answers::Said;
 use open_end::shown;
 use text::output::Output;
 
-#[derive(Drop)]
+#[derive(Clone, Copy)]
 pub struct Session {
     // How many bytes of the buffer are lent.
     pub room: usize,

@@ -11,6 +11,8 @@
 //     calls    the same, every call through the table's own function for it
 //
 // With no input one round is played each way, its name before its lines.
+#![tactic(auto)]
+
 use crate::units::{Tally, same};
 use crate::ways::Way;
 use open_end::shown;
@@ -26,7 +28,7 @@ const MOST_ROUNDS: u64 = 1000000;
 // A text of so many bytes fills the buffer that it is read to, and may go on.
 const TOO_LONG: usize = 4096;
 
-#[derive(Drop)]
+#[derive(Clone, Copy)]
 enum Asked {
     Each,
     One { way: Way, rounds: u64 },

@@ -32,7 +32,7 @@ const BLOCK: u8 = 15;
 
 // What came and went. The checksum is a sum over what we handed over, each telegram mixed with the step at which it went, and
 // over the bytes of the messages taken: it does not hang on whose turn it was.
-#[derive(Drop)]
+#[derive(Clone, Copy)]
 pub(crate) struct Tally {
     pub(crate) messages: u64,
     pub(crate) frames: u64,

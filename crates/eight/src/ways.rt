@@ -8,7 +8,7 @@ use text::reading;
 // The bytes of a record's buffer.
 const ROOM: usize = 1024;
 
-#[derive(Drop)]
+#[derive(Clone, Copy)]
 pub(crate) enum Way {
     Single,
     Table,
@@ -16,14 +16,14 @@ pub(crate) enum Way {
 }
 
 // A record, and what came and went.
-#[derive(Drop)]
+#[derive(Clone, Copy)]
 struct One {
     connection: Connection,
     tally: Tally,
 }
 
 // A table, and what came and went.
-#[derive(Drop)]
+#[derive(Clone, Copy)]
 struct All {
     table: Table,
     tally: Tally,

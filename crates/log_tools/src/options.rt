@@ -8,7 +8,7 @@ use telegram::cutting::LONGEST;
 use text::reading::{Number, decimal, part};
 
 // What the words came to.
-#[derive(Drop)]
+#[derive(Clone, Copy)]
 pub struct Options {
     // Whether the tool makes a list, and so has the option of its places.
     pub lists: bool,

@@ -7,6 +7,8 @@
 // closed record needs of them (docs/PERFORMANCE.md).
 //
 // Standard input has the number of rounds, 1 to 1,000,000; with no input one is played.
+#![tactic(auto)]
+
 ghost use Rattle.std.specs.Prelude.{◌≡◌};
 ghost use Rattle.settings.specs.Agreed.{own_fields};
 ghost use Rattle.connection.specs.Record.{requesting, agreeing, opened};
@@ -48,7 +50,7 @@ const RUNS: usize = 2 * (FRAMES / BLOCK as usize + 1);
 const MOST_ROUNDS: u64 = 1000000;
 
 // What went over both links. The checksum is the sum of all sums of the bytes so far.
-#[derive(Drop)]
+#[derive(Clone, Copy)]
 struct Tally {
     messages: u64,
     frames: u64,
@@ -57,7 +59,7 @@ struct Tally {
     checksum: u64,
 }
 
-#[derive(Drop)]
+#[derive(Clone, Copy)]
 struct Ends {
     // The end that hands over what it has due, and the one where it arrives.
     from: Connection,

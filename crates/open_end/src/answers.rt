@@ -3,7 +3,7 @@ ghost use Rattle.std.specs.Prelude.{◌≡◌};
 ghost use Rattle.open_end.specs.Answers.{plain, said, told};
 
 // What a call is answered with.
-#[derive(Drop)]
+#[derive(Clone, Copy)]
 pub enum Answer {
     // What an open channel answers with.
     Channel(channel::Answer),
@@ -21,7 +21,7 @@ pub enum Answer {
 
 // What an answer says: its number in the protocol's table, whether the message in sending is done, and the opcode of a
 // refusal, else 0.
-#[derive(Drop)]
+#[derive(Clone, Copy)]
 pub struct Said {
     pub number: u8,
     pub done: bool,
@@ -29,7 +29,7 @@ pub struct Said {
 }
 
 // An answer, and what it says.
-#[derive(Drop)]
+#[derive(Clone, Copy)]
 pub struct Told {
     pub answer: Answer,
     pub said: Said,

@@ -2,6 +2,8 @@
 // car's side; opening, closing and who is listened to belong to the record above.
 //
 // Every call is good for every byte. What an answer means for the record above is said by `course_of`.
+#![tactic(auto)]
+
 ghost use Rattle.std.specs.Prelude.{◌≡◌, length, take, drop};
 ghost use Rattle.telegram.specs.Cutting.{longest};
 ghost use Rattle.open_end.specs.OpenEnd.{no_frame, no_channel, unopened, fresh_end, course_of, arrived_at, buffered_at, elapsed_at, frame_on, due_at, sent_at, take_answer, taken_at};
@@ -16,14 +18,14 @@ use telegram::payload::Payload;
 pub mod answers;
 
 // A CAN frame to hand over.
-#[derive(Drop)]
+#[derive(Clone, Copy)]
 pub struct Frame {
     pub id: u16,
     pub payload: Payload,
 }
 
 // The ID that we transmit on, the one that we receive on, and the channel.
-#[derive(Drop)]
+#[derive(Clone, Copy)]
 pub struct OpenEnd {
     pub transmit: u16,
     pub receive: u16,
@@ -31,7 +33,7 @@ pub struct OpenEnd {
 }
 
 // What an answer of the channel means for the record above.
-#[derive(Drop)]
+#[derive(Clone, Copy)]
 pub enum Course {
     GoesOn,
     // Repeats or tests are used up: it is closed, with nothing due.
@@ -41,14 +43,14 @@ pub enum Course {
 }
 
 // What a call answers, and the end that it leaves.
-#[derive(Drop)]
+#[derive(Clone, Copy)]
 pub struct Answered {
     pub answer: channel::Answer,
     pub end: OpenEnd,
 }
 
 // A frame to hand over, if one is given; else ID 0 and no bytes.
-#[derive(Drop)]
+#[derive(Clone, Copy)]
 pub struct Due {
     pub answer: channel::Answer,
     pub given: bool,
@@ -57,7 +59,7 @@ pub struct Due {
 }
 
 // What taking a message comes to: the message shown, its length and its flags, and none with a refusal.
-#[derive(Drop)]
+#[derive(Clone, Copy)]
 pub struct TakeStep {
     pub answer: channel::Answer,
     pub message: Message,

@@ -1,5 +1,7 @@
 // Opening frames, both ways: the C0 request and the replies D0, D6, D7, D8; those of TP 1.6 in `short`.
 // Tests joined by `&` are all made, as in the definitions: none guards another.
+#![tactic(auto)]
+
 ghost use Rattle.std.specs.Prelude.{◌≡◌};
 ghost use Rattle.opening.specs.Opening.{id_of, request_of, reply_of, request_read, reply_read};
 
@@ -20,7 +22,7 @@ pub const NOT_FOR_NOW: u8 = 0xD7;
 pub const NO_RESOURCES: u8 = 0xD8;
 
 // A reply, read by the side that sent the request.
-#[derive(Drop)]
+#[derive(Clone, Copy)]
 pub enum Reply {
     // Opened: the ID to transmit on.
     Positive(u16),
@@ -30,7 +32,7 @@ pub enum Reply {
 }
 
 // A request, read by the side that is asked.
-#[derive(Drop)]
+#[derive(Clone, Copy)]
 pub enum Request {
     // The unit asked, and the ID on which the asking side receives.
     Open { unit: u8, receive: u16 },

@@ -1,4 +1,6 @@
 // A profile: the numbers in which TP 2.0 and the rows of TP 1.6 (SAE J3054) differ, and what opening and sorting read of them.
+#![tactic(auto)]
+
 ghost use Rattle.std.specs.Prelude.{◌≡◌};
 ghost use Rattle.opening.specs.declared.Reply.TheVariants.{Positive};
 ghost use Rattle.profile.specs.Profile.{within, tp20, drive, comfort, high, low, test_or_break, sorted_by};
@@ -9,14 +11,14 @@ use telegram::kinds::{Sorted, Telegram, sort};
 use telegram::payload::Payload;
 
 // Numbers from the least to the most, both belonging to it.
-#[derive(Drop)]
+#[derive(Clone, Copy)]
 pub struct Range {
     pub least: u16,
     pub most: u16,
 }
 
 // The numbers of a profile.
-#[derive(Drop)]
+#[derive(Clone, Copy)]
 pub struct Profile {
     // The CAN ID of the C0.
     pub request: u16,

@@ -3,6 +3,8 @@
 // What it answers to a data telegram is finer than the protocol's number: used, complete, thrown away, out of place, one
 // waits untaken, buffer short (on a first or a later frame), broken and by which of five causes.
 // Only a frame that is used writes to the buffer, behind what already stands there.
+#![tactic(auto)]
+
 ghost use Rattle.std.specs.Prelude.{◌≡◌, ◌+◌, ◌≤◌, length, false};
 ghost use Rattle.telegram.specs.Cutting.{longest};
 ghost use Rattle.receiver.specs.Inside.{in_order, brought_by, receiver_after};
@@ -12,7 +14,7 @@ use telegram::cutting::{LONGEST, Message, NONE, declared};
 use telegram::kinds::Telegram;
 
 // Where the receiver stands between two frames.
-#[derive(Drop)]
+#[derive(Clone, Copy)]
 pub struct Standing {
     // Throwing away, up to and including the next EOM.
     pub discarding: bool,
@@ -25,14 +27,14 @@ pub struct Standing {
 }
 
 // An Ack that is due, fixed when it became due.
-#[derive(Drop)]
+#[derive(Clone, Copy)]
 pub struct AckDue {
     pub due: bool,
     pub ready: bool,
     pub number: u8,
 }
 
-#[derive(Drop)]
+#[derive(Clone, Copy)]
 pub struct Receiver {
     pub at: Standing,
     // The place that a break returns to.
@@ -43,7 +45,7 @@ pub struct Receiver {
 }
 
 // Why a message is broken.
-#[derive(Drop)]
+#[derive(Clone, Copy)]
 pub enum Cause {
     // A first frame of two bytes.
     TooShort,
@@ -58,7 +60,7 @@ pub enum Cause {
 }
 
 // What became of a data telegram.
-#[derive(Drop)]
+#[derive(Clone, Copy)]
 pub enum Receipt {
     Used,
     Complete,
@@ -73,21 +75,21 @@ pub enum Receipt {
     NoData,
 }
 
-#[derive(Drop)]
+#[derive(Clone, Copy)]
 pub struct Received {
     pub note: Receipt,
     pub receiver: Receiver,
 }
 
 // What a frame brings: its message, and how many bytes of that are then there.
-#[derive(Drop)]
+#[derive(Clone, Copy)]
 struct Brought {
     message: Message,
     fill: usize,
 }
 
 // What taking a message finds.
-#[derive(Drop)]
+#[derive(Clone, Copy)]
 pub enum Taking {
     Shown,
     NoneComplete,
@@ -95,7 +97,7 @@ pub enum Taking {
     ShortBuffer,
 }
 
-#[derive(Drop)]
+#[derive(Clone, Copy)]
 pub struct Took {
     pub note: Taking,
     // The message shown; none with a refusal.

@@ -1,6 +1,8 @@
 // Replays the exchange of source 004: opens a channel to the engine control unit, starts a session, reads one block of
 // measuring values, and closes. It prints each frame that it hands over and each message that it takes, and stops where that
 // cannot be written.
+#![tactic(auto)]
+
 ghost use Rattle.std.specs.Prelude.{◌≡◌, ◌≤◌, length};
 ghost use Rattle.connection.specs.Calls.{taken_by};
 
@@ -30,7 +32,7 @@ const EXCHANGE: [u8; 96] = *b"\
 const PAUSE: u64 = 100;
 
 // What a step leaves: the output, and the record.
-#[derive(Drop)]
+#[derive(Clone, Copy)]
 struct Played {
     output: Output,
     connection: Connection,

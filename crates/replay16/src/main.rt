@@ -6,6 +6,8 @@
 // 001's figures are not in the text that we have. The IDs 0x740 and 0x741 are those of its 5.1.6 and 5.2.5, so by its table 4 the
 // unit is 0x01 and we are 0x00. The block size, the times and the bytes of the two messages are ours and not 001's. Each side sends
 // one message: 001 numbers data from 0 after each change of direction, and we count on.
+#![tactic(auto)]
+
 use connection::Connection;
 use open_end::{Frame, shown};
 use profile::Profile;
@@ -31,7 +33,7 @@ const UNIT: u16 = 0x201;
 const RECEIVE: u16 = 0x740;
 
 // What a step leaves: the output, and the record.
-#[derive(Drop)]
+#[derive(Clone, Copy)]
 struct Played {
     output: Output,
     connection: Connection,

@@ -3,6 +3,8 @@
 // What it answers: to a message offered, accepted, busy or a length it does not send; to an Ack, what it did; to time,
 // whether a wait ran out; to a call for a frame, the frame, nothing, or that another length was lent.
 // Where repeats are used up it says so and leaves itself as it was: the channel is lost then.
+#![tactic(auto)]
+
 ghost use Rattle.std.specs.Prelude.{◌≡◌, ◌<◌, max};
 ghost use Rattle.laws.specs.If.{if◌then◌else◌};
 ghost use Rattle.telegram.specs.Cutting.{longest};
@@ -15,7 +17,7 @@ use telegram::time::less;
 
 // What was agreed and set for sending: the block size, our own T1 and the peer's T3 in tenths of a millisecond, the
 // repeats allowed to a block, and how long a peer that is not ready holds the data back (T_WAIT).
-#[derive(Drop)]
+#[derive(Clone, Copy)]
 pub struct Terms {
     pub t1: u32,
     pub t3: u32,
@@ -25,7 +27,7 @@ pub struct Terms {
 }
 
 // The state of sending. Frames are counted from the start of the message; a timer at 0 does not run.
-#[derive(Drop)]
+#[derive(Clone, Copy)]
 pub struct Sender {
     // Length of the message in sending; 0 is none.
     pub length: u16,
@@ -47,21 +49,21 @@ pub struct Sender {
     pub gap: u32,
 }
 
-#[derive(Drop)]
+#[derive(Clone, Copy)]
 pub enum Offer {
     Accepted,
     Busy,
     BadLength,
 }
 
-#[derive(Drop)]
+#[derive(Clone, Copy)]
 pub struct Offered {
     pub note: Offer,
     pub sender: Sender,
 }
 
 // What an Ack did.
-#[derive(Drop)]
+#[derive(Clone, Copy)]
 pub enum Hearing {
     // It acknowledged some frames, and the message goes on.
     Part,
@@ -77,14 +79,14 @@ pub enum Hearing {
     NoAck,
 }
 
-#[derive(Drop)]
+#[derive(Clone, Copy)]
 pub struct Heard {
     pub note: Hearing,
     pub sender: Sender,
 }
 
 // What passing time did.
-#[derive(Drop)]
+#[derive(Clone, Copy)]
 pub enum Passing {
     Quiet,
     // The wait for an Ack ran out, and the block is sent again from the oldest unacknowledged frame.
@@ -93,14 +95,14 @@ pub enum Passing {
     UsedUp,
 }
 
-#[derive(Drop)]
+#[derive(Clone, Copy)]
 pub struct Passed {
     pub note: Passing,
     pub sender: Sender,
 }
 
 // What a call for a frame found.
-#[derive(Drop)]
+#[derive(Clone, Copy)]
 pub enum Handing {
     Frame,
     // No data is due now.
@@ -109,7 +111,7 @@ pub enum Handing {
     OtherLength,
 }
 
-#[derive(Drop)]
+#[derive(Clone, Copy)]
 pub struct Handed {
     pub note: Handing,
     pub sender: Sender,

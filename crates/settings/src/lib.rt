@@ -1,4 +1,6 @@
 // The eleven settings of an end, their ranges and their defaults, by the profile.
+#![tactic(auto)]
+
 ghost use Rattle.std.specs.Prelude.{◌≡◌};
 ghost use Rattle.settings.specs.Settings.{defaults, defaults16, wait_allowed, allowed_by, allowed, used};
 
@@ -9,7 +11,7 @@ use telegram::time::tenths;
 pub mod agreed;
 
 // The settings, by the standard's names. T1 and T3 are time codes; T_E, T_WAIT and T_CT are tenths of a millisecond.
-#[derive(Drop)]
+#[derive(Clone, Copy)]
 pub struct Settings {
     // Our own receive ID.
     pub receive: u16,

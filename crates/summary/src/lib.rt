@@ -1,4 +1,6 @@
 // The running summary of a bus log: how many of its frames fell in each class. It is lent, and frames are absorbed into it.
+#![tactic(auto)]
+
 ghost use Rattle.std.specs.Prelude.{◌≡◌};
 ghost use Rattle.summary.specs.Classes.{class_of};
 ghost use Rattle.summary.specs.Counting.{grown, absorbed, absorbed_all, empty, frames_of};
@@ -6,7 +8,7 @@ ghost use Rattle.summary.specs.Counting.{grown, absorbed, absorbed_all, empty, f
 use follow::Fate;
 
 // What can become of a frame.
-#[derive(Drop)]
+#[derive(Clone, Copy)]
 pub enum Class {
     Used,
     OutOfPlace,
@@ -18,7 +20,7 @@ pub enum Class {
 }
 
 // The frames of each class.
-#[derive(Drop)]
+#[derive(Clone, Copy)]
 pub struct Summary {
     pub used: u32,
     pub out_of_place: u32,

@@ -2,6 +2,8 @@
 // answer, one place of it changed at most.
 //
 // Every call is good on every table and for every byte. A frame that is for none gives 3, and a place over 7 gives 4.
+#![tactic(auto)]
+
 ghost use Rattle.std.specs.Prelude.{◌≡◌, length};
 ghost use Rattle.telegram.specs.Cutting.{longest};
 ghost use Rattle.table.specs.Table.{empty, owner_of, named, free_of, uses_either, is_used, reserved};
@@ -16,20 +18,20 @@ use settings::Settings;
 pub const PLACES: usize = 8;
 
 // The records, one a place.
-#[derive(Drop)]
+#[derive(Clone, Copy)]
 pub struct Table {
     pub places: [Connection; 8],
 }
 
 // A place, or none.
-#[derive(Drop)]
+#[derive(Clone, Copy)]
 pub enum Place {
     Nowhere,
     At(u8),
 }
 
 // What an opening tells, the place that it took, and the table that it leaves.
-#[derive(Drop)]
+#[derive(Clone, Copy)]
 pub struct Opened {
     pub told: Told,
     pub place: Place,
@@ -37,7 +39,7 @@ pub struct Opened {
 }
 
 // What a frame that arrives tells, whether its telegram is padded, its owner's place, and the table that it leaves.
-#[derive(Drop)]
+#[derive(Clone, Copy)]
 pub struct Arrived {
     pub told: Told,
     pub padded: bool,
@@ -46,14 +48,14 @@ pub struct Arrived {
 }
 
 // What a call to a place tells, and the table that it leaves.
-#[derive(Drop)]
+#[derive(Clone, Copy)]
 pub struct Answered {
     pub told: Told,
     pub table: Table,
 }
 
 // A frame that a place hands over, if one is given; else ID 0 and no bytes.
-#[derive(Drop)]
+#[derive(Clone, Copy)]
 pub struct Due {
     pub told: Told,
     pub given: bool,
@@ -63,7 +65,7 @@ pub struct Due {
 
 // What taking a message at a place comes to: where it is shown, len is its declared length and flags are its flags, and else
 // both are 0.
-#[derive(Drop)]
+#[derive(Clone, Copy)]
 pub struct TakeStep {
     pub told: Told,
     pub len: usize,
@@ -72,7 +74,7 @@ pub struct TakeStep {
 }
 
 // A message taken at a place: the first part of the lent buffer, and nothing of it where none is shown; its flags, and 0 there.
-#[derive(Drop)]
+#[derive(Clone, Copy)]
 pub struct Taken<'a> {
     pub told: Told,
     pub flags: u16,

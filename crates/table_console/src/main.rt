@@ -1,6 +1,8 @@
 // A table of eight connections driven by hand: each line of standard input is a call of the table or of one of its places, and
 // each answer is a line of standard output, written before the next line is waited for. A line that is no call answers
 // "error line N" and changes nothing. An answer that cannot be written ends the program.
+#![tactic(auto)]
+
 use channel::Answer::NotDue;
 use dialogue::answers::Carried;
 use dialogue::calls::Call;
@@ -16,7 +18,7 @@ use text::reading::Number;
 use text::{reading, writing};
 
 // What is kept from line to line, beside the buffers and the messages that main makes.
-#[derive(Drop)]
+#[derive(Clone, Copy)]
 struct Console {
     table: Table,
     session: Session,

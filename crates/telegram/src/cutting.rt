@@ -8,7 +8,7 @@ use crate::payload::Payload;
 
 // A message as its first frame declares it: its length in bytes, and four flags, 0 to 15. Length 0 is none. Flags are as wide as
 // a length, so that a message has no gap between its fields.
-#[derive(Drop)]
+#[derive(Clone, Copy)]
 pub struct Message {
     pub length: u16,
     pub flags: u16,

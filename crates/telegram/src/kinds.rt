@@ -5,7 +5,7 @@ ghost use Rattle.telegram.specs.Kinds.{bad_block, fillable, sorted, ack_of, test
 use crate::payload::Payload;
 
 // What an A0 (connection set-up) and an A1 (connection acknowledge) carry: the block size byte and two time codes.
-#[derive(Drop)]
+#[derive(Clone, Copy)]
 pub struct Parameters {
     pub block: u8,
     pub t1: u8,
@@ -13,7 +13,7 @@ pub struct Parameters {
 }
 
 // A telegram's kind. The bytes that a data telegram carries stay in the slice, from its second byte on.
-#[derive(Drop)]
+#[derive(Clone, Copy)]
 pub enum Telegram {
     Data { asks: bool, last: bool, number: u8 },
     Ack { ready: bool, number: u8 },
@@ -26,7 +26,7 @@ pub enum Telegram {
 }
 
 // A telegram's kind, and whether it is a control telegram that is filled up to 8 bytes.
-#[derive(Drop)]
+#[derive(Clone, Copy)]
 pub struct Sorted {
     pub kind: Telegram,
     pub padded: bool,

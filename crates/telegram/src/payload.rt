@@ -1,7 +1,7 @@
 // What goes out.
 
 // The bytes of a telegram: the first len of eight. Every writer leaves zeros behind them.
-#[derive(Drop)]
+#[derive(Clone, Copy)]
 pub struct Payload {
     pub len: usize,
     pub bytes: [u8; 8],

@@ -11,6 +11,8 @@
 //     w  a telegram is written: its opcode, and what it carries
 //     c  a frame is cut: block size, first number, how many frames stand before it, and the message
 //     z  the same of 1,024 zeros
+#![tactic(auto)]
+
 use opening::{Reply, Request};
 use telegram::cutting::Message;
 use telegram::kinds::{Parameters, Sorted, Telegram};

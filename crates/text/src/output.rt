@@ -2,7 +2,7 @@
 ghost use Rattle.std.specs.Prelude.{◌≡◌};
 ghost use Rattle.text.specs.Output.{fresh, Said};
 
-#[derive(Drop)]
+#[derive(Clone, Copy)]
 pub struct Output {
     pub failed: bool,
 }

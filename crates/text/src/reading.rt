@@ -5,7 +5,7 @@ ghost use Rattle.text.specs.Pairs.{is_pair, byte_of, pairs_read, pairs_into};
 ghost use Rattle.text.specs.Words.{is_blank, belongs, run_of, word_from};
 
 // What a text stands for as a number.
-#[derive(Drop)]
+#[derive(Clone, Copy)]
 pub enum Number {
     Value(u64),
     // A number that 64 bits do not hold.
@@ -14,7 +14,7 @@ pub enum Number {
 }
 
 // What a text gives as bytes.
-#[derive(Drop)]
+#[derive(Clone, Copy)]
 pub enum Bytes {
     // So many bytes.
     Count(usize),
@@ -24,7 +24,7 @@ pub enum Bytes {
 }
 
 // Where something starts and where it ends: the place of its first character, and that behind its last.
-#[derive(Drop)]
+#[derive(Clone, Copy)]
 pub struct Span {
     pub start: usize,
     pub end: usize,

@@ -4,6 +4,8 @@
 //
 // Every call is good in every state and for every byte: what is not due, not well formed or not possible is refused by its
 // number in the protocol's table; a refusal changes the record only as the table says, and never the buffer.
+#![tactic(auto)]
+
 ghost use Rattle.std.specs.Prelude.{◌≡◌, length};
 ghost use Rattle.telegram.specs.Cutting.{longest};
 ghost use Rattle.open_end.specs.OpenEnd.{buffered_at};
@@ -39,7 +41,7 @@ pub const ACCEPTING: u8 = 5;
 pub const OPEN: u8 = 6;
 
 // The record.
-#[derive(Drop)]
+#[derive(Clone, Copy)]
 pub struct ControlUnit {
     pub phase: u8,
     // The opcode that a C0 is answered with.
@@ -51,7 +53,7 @@ pub struct ControlUnit {
 }
 
 // What a call tells, and the unit that it leaves.
-#[derive(Drop)]
+#[derive(Clone, Copy)]
 pub struct Answered {
     pub told: Told,
     pub unit: ControlUnit,
@@ -59,7 +61,7 @@ pub struct Answered {
 
 // What a frame that arrives tells, whether its telegram is padded, and the unit that it leaves. The mark is false with the
 // numbers 1 and 3, with a closed unit's 4 and on 0x200.
-#[derive(Drop)]
+#[derive(Clone, Copy)]
 pub struct Arrived {
     pub told: Told,
     pub padded: bool,
@@ -67,7 +69,7 @@ pub struct Arrived {
 }
 
 // A frame to hand over, if one is given; else ID 0 and no bytes.
-#[derive(Drop)]
+#[derive(Clone, Copy)]
 pub struct Due {
     pub told: Told,
     pub given: bool,
@@ -76,7 +78,7 @@ pub struct Due {
 }
 
 // What taking a message comes to: where it is shown, len is its declared length and flags are its flags, and else both are 0.
-#[derive(Drop)]
+#[derive(Clone, Copy)]
 pub struct TakeStep {
     pub told: Told,
     pub len: usize,
@@ -85,7 +87,7 @@ pub struct TakeStep {
 }
 
 // A message taken: the first part of the lent buffer, and nothing of it where none is shown; its flags, and 0 there.
-#[derive(Drop)]
+#[derive(Clone, Copy)]
 pub struct Taken<'a> {
     pub told: Told,
     pub flags: u16,

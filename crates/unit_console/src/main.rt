@@ -1,6 +1,8 @@
 // A stand-in control unit driven by hand: each line of standard input is a call of the record, and each answer is a line of
 // standard output, written before the next line is waited for. A line that is no call answers "error line N" and changes
 // nothing. An answer that cannot be written ends the program.
+#![tactic(auto)]
+
 use dialogue::answers::Carried;
 use dialogue::calls::{Call, read_call};
 use dialogue::lines::read_line;
@@ -13,14 +15,14 @@ use text::writing;
 use unit::{Answered, Arrived, ControlUnit, Due, TakeStep};
 
 // What is kept from line to line, beside the buffers that main makes.
-#[derive(Drop)]
+#[derive(Clone, Copy)]
 struct Console {
     unit: ControlUnit,
     session: Session,
 }
 
 // A call that a control unit alone has.
-#[derive(Drop)]
+#[derive(Clone, Copy)]
 enum Own {
     Wrong,
     Set { settings: Settings, reply: u8 },
