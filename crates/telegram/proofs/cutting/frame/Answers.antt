@@ -1,0 +1,6 @@
+use borrow.Author.Rules.{rules}
+use Rattle.telegram.proofs.Bytes.{frame_made}
+use Rattle.telegram.proofs.cutting.frame.Goals as goal
+
+pub returns : goal.returns
+returns c = search frame_made

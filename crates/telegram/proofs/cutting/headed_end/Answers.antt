@@ -1,0 +1,6 @@
+use borrow.Author.Rules.{rules}
+use Rattle.telegram.proofs.Bytes.{headed-made}
+use Rattle.telegram.proofs.cutting.headed_end.Goals as goal
+
+pub returns : goal.returns
+returns c = search headed-made

@@ -1,0 +1,5 @@
+use borrow.Author.Rules.{rules}
+use Rattle.telegram.proofs.kinds.sort.Goals as goal
+
+pub returns : goal.returns
+returns c = rw (c.fillable.ensures, c.kind-kind.ensures)
