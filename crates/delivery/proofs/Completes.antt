@@ -11,7 +11,7 @@ use Rattle.receiver.specs.Receiving.{waiting, took, on_data, is_used, buffered}
 use Rattle.receiver.specs.declared.Receiver.{Receiver}
 use Rattle.receiver.specs.declared.Received.{Received}
 use Rattle.receiver.specs.declared.Took.{Took}
-use Rattle.receiver.proofs.Outcomes.{Outcome, out-of-place, untaken, thrown-away, in_order, outcome, TakeOutcome, none-complete, short-buffer, shows, take-outcome}
+use Rattle.receiver.proofs.Outcomes.{Outcome, out-of-place, untaken, thrown-away, in-order, outcome, TakeOutcome, none-complete, short-buffer, shows, take-outcome}
 use Rattle.receiver.proofs.Laws.{settled-leaves, buffered-unused}
 use Rattle.delivery.specs.System.{ShownMessage, shown_of, newly}
 use Rattle.delivery.proofs.Core.{shown_by}
@@ -51,7 +51,7 @@ waits_kept limit r asks last number p room w = go (outcome limit r asks last num
     go (out-of-place n) = record { complete = (settled-leaves r asks false r.at r.complete).complete; unused = refl }
     go (untaken e w') = record { complete = (settled-leaves r asks false r.at r.complete).complete; unused = refl }
     go (thrown-away e n t) = absurd (true≢false (sym w ∙ n))
-    go (in_order o j) = absurd (true≢false (sym w ∙ o.none-waits))
+    go (in-order o j) = absurd (true≢false (sym w ∙ o.none-waits))
 
 -- data that arrives: what it completes is what waits after it
 module _ (limit : ℕ) (r : Receiver) (asks last : Bool) (number : ℕ) (p b : List ℕ) (complete handed_out : List ShownMessage) where

@@ -24,7 +24,7 @@ use Rattle.receiver.specs.declared.Receipt.{Receipt}
 use Rattle.receiver.specs.declared.Receipt.TheVariants.{NoData}
 use Rattle.receiver.specs.declared.Received.{Received}
 use Rattle.receiver.specs.declared.Took.{Took}
-use Rattle.receiver.proofs.Outcomes.{Outcome, out-of-place, untaken, thrown-away, in_order, outcome, TakeOutcome, none-complete, short-buffer, shows, take-outcome}
+use Rattle.receiver.proofs.Outcomes.{Outcome, out-of-place, untaken, thrown-away, in-order, outcome, TakeOutcome, none-complete, short-buffer, shows, take-outcome}
 use Rattle.receiver.proofs.Laws.{kept-is, outcome-ack, received-data, buffered-unused, buffered-length}
 use Rattle.reading.specs.Reading.{Reading, after}
 use Rattle.reading.proofs.Frame.{unflagged, Behind, Reads, within, whole, behind-front, reads-used, reads-expected, arrives-data, reads-frame}
@@ -350,7 +350,7 @@ module _ {limit room start used block : ℕ} {places : List ℕ} {d : Direction}
         go e (out-of-place n) = subst (λ (x : Received). Kept limit room (received_to d f x)) (sym e) (unused _ refl)
         go e (untaken n w) = subst (λ (x : Received). Kept limit room (received_to d f x)) (sym e) (unused _ refl)
         go e (thrown-away n w t) = absurd (true≢false (sym t ∙ not-discarding v.content))
-        go e (in_order o j) = expected' o.expected (omega (arith, ltb-false 0 d.receiver.complete.length o.none-waits))
+        go e (in-order o j) = expected' o.expected (omega (arith, ltb-false 0 d.receiver.complete.length o.none-waits))
 
   -- ---- a message is taken
 

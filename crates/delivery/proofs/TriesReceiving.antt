@@ -19,7 +19,7 @@ use Rattle.receiver.specs.declared.Standing.{Standing}
 use Rattle.receiver.specs.declared.Receiver.{Receiver}
 use Rattle.receiver.specs.declared.Received.{Received}
 use Rattle.receiver.specs.declared.Took.{Took}
-use Rattle.receiver.proofs.Outcomes.{breaks, short-first, short-later, goes_on, ends, Outcome, out-of-place, untaken, thrown-away, in_order, outcome, TakeOutcome, none-complete, short-buffer, shows, take-outcome}
+use Rattle.receiver.proofs.Outcomes.{breaks, short-first, short-later, goes_on, ends, Outcome, out-of-place, untaken, thrown-away, in-order, outcome, TakeOutcome, none-complete, short-buffer, shows, take-outcome}
 use Rattle.receiver.proofs.Laws.{Leaves, settled-leaves, numbered-leaves, kept-is}
 use Rattle.receiver.proofs.Gaps.{gap-kept}
 use Rattle.delivery.specs.System.{Try, ShownMessage, Fate, handing, losing}
@@ -57,11 +57,11 @@ module _ (limit : ℕ) (r : Receiver) (asks last : Bool) (number : ℕ) (p : Lis
       go (out-of-place n) = absurd (n e)
       go (untaken _ t) = absurd (true≢false (sym t ∙ w))
       go (thrown-away _ _ t) = leaves-seen (numbered-leaves r asks last _ _ _ _) (omega arith)
-      go (in_order o (breaks c)) = leaves-seen (numbered-leaves r asks last _ _ _ _) (omega arith)
-      go (in_order o (short-first b t s)) = leaves-seen (numbered-leaves r asks last _ _ _ _) (omega arith)
-      go (in_order o (short-later f s)) = absurd (omega arith)
-      go (in_order o (goes_on b l less roomy)) = leaves-seen (numbered-leaves r asks false _ _ _ _) roomy
-      go (in_order o (ends b l all roomy)) = leaves-seen (numbered-leaves r asks true _ _ _ _) (omega arith)
+      go (in-order o (breaks c)) = leaves-seen (numbered-leaves r asks last _ _ _ _) (omega arith)
+      go (in-order o (short-first b t s)) = leaves-seen (numbered-leaves r asks last _ _ _ _) (omega arith)
+      go (in-order o (short-later f s)) = absurd (omega arith)
+      go (in-order o (goes_on b l less roomy)) = leaves-seen (numbered-leaves r asks false _ _ _ _) roomy
+      go (in-order o (ends b l all roomy)) = leaves-seen (numbered-leaves r asks true _ _ _ _) (omega arith)
 
   -- another frame
   other-seen : (number ≡ r.at.expected → ⊥) → Seen r asks room r.at.expected (on_data limit r asks last number p room).receiver

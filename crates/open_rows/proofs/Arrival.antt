@@ -24,7 +24,7 @@ use Rattle.receiver.specs.declared.Receiver.{Receiver}
 use Rattle.receiver.specs.declared.Received.{Received}
 use Rattle.receiver.specs.declared.Cause.{Cause}
 use Rattle.receiver.specs.Receiving.{is_used, numbered, settled as receiver_settled, on_data}
-use Rattle.receiver.proofs.Outcomes.{declared_by, Brings, at_first, at-later, Breaks, too_short, declares-none, over-limit, too_many, no_end, early-end, Judged, breaks, short-first, short-later, goes_on, ends, InOrder, Outcome, out-of-place, untaken, thrown-away, in_order, outcome}
+use Rattle.receiver.proofs.Outcomes.{declared_by, Brings, at_first, at-later, Breaks, too_short, declares-none, over-limit, too_many, no_end, early-end, Judged, breaks, short-first, short-later, goes_on, ends, InOrder, Outcome, out-of-place, untaken, thrown-away, in-order, outcome}
 use Rattle.receiver.proofs.Laws.{NotData, received-data, buffered-noted}
 use Rattle.channel.specs.Opened.{with_sender, with_receiver, restarted}
 use Rattle.channel.specs.declared.Channel.{Channel}
@@ -171,7 +171,7 @@ module _ {A : Type 0} (w : Ways A) (limit : ℕ) (ch : Channel) (s b : List ℕ)
     received-told (out-of-place n) = rw (d, ne_eqb _ _ n, or-false)
     received-told (untaken e w) = rw (d, eq-eqb _ _ e, w, or-false)
     received-told (thrown-away e w t) = rw (d, eq-eqb _ _ e, w, throws t)
-    received-told (in_order o j) = judged-told o j
+    received-told (in-order o j) = judged-told o j
 
   -- ---- the rows that an Ack on an open connection meets
 

@@ -26,7 +26,7 @@ use Rattle.receiver.specs.declared.Receiver.{Receiver}
 use Rattle.receiver.specs.declared.Received.{Received}
 use Rattle.receiver.specs.declared.Standing.{Standing}
 use Rattle.receiver.specs.declared.Took.{Took}
-use Rattle.receiver.proofs.Outcomes.{Brings, at_first, at-later, breaks, short-first, short-later, goes_on, ends, Outcome, out-of-place, untaken, thrown-away, in_order, outcome, TakeOutcome, none-complete, short-buffer, shows, take-outcome}
+use Rattle.receiver.proofs.Outcomes.{Brings, at_first, at-later, breaks, short-first, short-later, goes_on, ends, Outcome, out-of-place, untaken, thrown-away, in-order, outcome, TakeOutcome, none-complete, short-buffer, shows, take-outcome}
 use Rattle.channel.specs.declared.Parameters.{Parameters}
 use Rattle.channel.specs.declared.Tests.{Tests}
 use Rattle.channel.specs.declared.Channel.{Channel}
@@ -92,11 +92,11 @@ module _ {limit : ℕ} {r : Receiver} (k : Receives limit r) where
   data-receives h (out-of-place n) = settled-receives _ _ _ _ k.at k.complete
   data-receives h (untaken e w) = settled-receives _ _ _ _ k.at k.complete
   data-receives h (thrown-away e w t) = discarded-receives _ _
-  data-receives h (in_order o (breaks c)) = discarded-receives _ _
-  data-receives h (in_order o (short-first b e s)) = discarded-receives _ _
-  data-receives h (in_order o (short-later f s)) = k
-  data-receives h (in_order o (goes_on b l less roomy)) = used-receives _ _ _ (brings-declared h b) less
-  data-receives h (in_order o (ends b l all roomy)) = completed-receives _ _ (brings-declared h b)
+  data-receives h (in-order o (breaks c)) = discarded-receives _ _
+  data-receives h (in-order o (short-first b e s)) = discarded-receives _ _
+  data-receives h (in-order o (short-later f s)) = k
+  data-receives h (in-order o (goes_on b l less roomy)) = used-receives _ _ _ (brings-declared h b) less
+  data-receives h (in-order o (ends b l all roomy)) = completed-receives _ _ (brings-declared h b)
 
   received-receives : (t : Telegram) (p : List ℕ) (room : ℕ) → Bytes p → Receives limit (received limit r t p room).receiver
   unfolding received

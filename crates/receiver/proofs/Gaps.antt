@@ -11,7 +11,7 @@ use Rattle.receiver.specs.Receiving.{idle, no_ack, waiting, following, kept, fil
 use Rattle.receiver.specs.declared.Receiver.{Receiver}
 use Rattle.receiver.specs.declared.Receipt.TheVariants.{Complete, OutOfPlace}
 use Rattle.receiver.specs.declared.Received.{Received}
-use Rattle.receiver.proofs.Outcomes.{Outcome, out-of-place, untaken, thrown-away, in_order, outcome}
+use Rattle.receiver.proofs.Outcomes.{Outcome, out-of-place, untaken, thrown-away, in-order, outcome}
 use Rattle.receiver.proofs.Laws.{settled-leaves}
 
 -- the seam where numbers begin again: 15 comes before 0, and 0 before 1, so each is out of place there
@@ -55,7 +55,7 @@ gap-kept limit r asks last number p room n = go (outcome limit r asks last numbe
     go (out-of-place _) = refl
     go (untaken e w) = absurd (n e)
     go (thrown-away e w t) = absurd (n e)
-    go (in_order o j) = absurd (n o.expected)
+    go (in-order o j) = absurd (n o.expected)
 
 module _ (limit : ℕ) (r : Receiver) (last : Bool) (number : ℕ) (p : List ℕ) (room : ℕ) where
   -- after a gap the Ack carries the number expected, not the frame's own + 1

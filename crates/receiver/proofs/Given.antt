@@ -20,7 +20,7 @@ use Rattle.receiver.specs.declared.Cause.TheVariants.{TooShort, BadLength, TooMa
 use Rattle.receiver.specs.declared.Receipt.{Receipt}
 use Rattle.receiver.specs.declared.Receipt.TheVariants.{Used, Complete, ThrownAway, OutOfPlace, Untaken, ShortFirst, ShortLater, Broken}
 use Rattle.receiver.specs.declared.Received.{Received}
-use Rattle.receiver.proofs.Outcomes.{Brings, at_first, at-later, EndsThere, Breaks, too_short, declares-none, over-limit, too_many, no_end, early-end, breaks, short-first, short-later, goes_on, ends, InOrder, Outcome, out-of-place, untaken, thrown-away, in_order, outcome}
+use Rattle.receiver.proofs.Outcomes.{Brings, at_first, at-later, EndsThere, Breaks, too_short, declares-none, over-limit, too_many, no_end, early-end, breaks, short-first, short-later, goes_on, ends, InOrder, Outcome, out-of-place, untaken, thrown-away, in-order, outcome}
 use Rattle.receiver.proofs.Rules.{declares, flags_in, is_numbered, waiting-some, waiting_none, first-begun}
 
 -- a frame with the expected number, while no message waits and none is thrown away
@@ -50,11 +50,11 @@ pub record GoesOn (r : Receiver) (number room : ℕ) : Type 0 where
 pub data Given (limit : ℕ) (r : Receiver) (last : Bool) (number : ℕ) (p : List ℕ) (room : ℕ) : Receipt → Type 0 where
   -- "12: data out of place"
   out : (number ≡ r.at.expected → ⊥) → Given limit r last number p room (OutOfPlace r.at.expected)
-  -- "5: in_order data while one waits untaken"
+  -- "5: in-order data while one waits untaken"
   waits : number ≡ r.at.expected → 1 ≤ r.complete.length → Given limit r last number p room Untaken
-  -- "the following in_order frames are .. thrown away": they need no buffer
+  -- "the following in-order frames are .. thrown away": they need no buffer
   away : number ≡ r.at.expected → r.complete.length ≡ 0 → r.at.discarding ≡ true → Given limit r last number p room ThrownAway
-  -- "7: at in_order data .. lent buffer shorter than the declared length", on a later frame
+  -- "7: at in-order data .. lent buffer shorter than the declared length", on a later frame
   held-off : InPlace r number → 1 ≤ r.at.begun.length → room < r.at.begun.length → Given limit r last number p room ShortLater
   -- "a first frame of 2 bytes"
   two_bytes : First r number → length p ≤ 1 → Given limit r last number p room (Broken TooShort)
@@ -120,13 +120,13 @@ module _ {limit : ℕ} {r : Receiver} {last : Bool} {number : ℕ} {p : List ℕ
   outcome-given (out-of-place n) = out n
   outcome-given (untaken e w) = waits e (ltb-true 0 r.complete.length w)
   outcome-given (thrown-away e w t) = let z = ltb-false 0 r.complete.length w in away e (omega arith) t
-  outcome-given (in_order o (breaks c)) = broken-given o c
-  outcome-given (in_order o (short-first b e s)) = short-given o b last refl e s
-  outcome-given (in_order o (short-later f s)) = held-off (in_place_of o) (some-begun r.at.begun.length f) s
-  outcome-given (in_order o (goes_on (at_first f two some most) l less roomy)) = used-first (begins-of o f two some most) l (omega arith) roomy
-  outcome-given (in_order o (goes_on (at-later f held) l less roomy)) = used-later (goes_of o f held) l less
-  outcome-given (in_order o (ends (at_first f two some most) l all roomy)) = whole-first (begins-of o f two some most) l (omega arith) roomy
-  outcome-given (in_order o (ends (at-later f held) l all roomy)) = whole-later (goes_of o f held) l all
+  outcome-given (in-order o (breaks c)) = broken-given o c
+  outcome-given (in-order o (short-first b e s)) = short-given o b last refl e s
+  outcome-given (in-order o (short-later f s)) = held-off (in_place_of o) (some-begun r.at.begun.length f) s
+  outcome-given (in-order o (goes_on (at_first f two some most) l less roomy)) = used-first (begins-of o f two some most) l (omega arith) roomy
+  outcome-given (in-order o (goes_on (at-later f held) l less roomy)) = used-later (goes_of o f held) l less
+  outcome-given (in-order o (ends (at_first f two some most) l all roomy)) = whole-first (begins-of o f two some most) l (omega arith) roomy
+  outcome-given (in-order o (ends (at-later f held) l all roomy)) = whole-later (goes_of o f held) l all
 
 -- what a frame is answered with is given in one of its cases
 pub note-given : (limit : ℕ) (r : Receiver) (asks last : Bool) (number : ℕ) (p : List ℕ) (room : ℕ)

@@ -18,7 +18,7 @@ use Rattle.receiver.specs.declared.Receipt.{Receipt}
 use Rattle.receiver.specs.declared.Receipt.TheVariants.{ShortLater, NoData}
 use Rattle.receiver.specs.declared.Received.{Received}
 use Rattle.receiver.specs.declared.Taking.TheVariants.{NoneComplete}
-use Rattle.receiver.proofs.Outcomes.{Brings, at_first, at-later, breaks, short-first, short-later, goes_on, ends, Outcome, out-of-place, untaken, thrown-away, in_order, outcome}
+use Rattle.receiver.proofs.Outcomes.{Brings, at_first, at-later, breaks, short-first, short-later, goes_on, ends, Outcome, out-of-place, untaken, thrown-away, in-order, outcome}
 
 -- ---- what a frame leaves
 
@@ -65,11 +65,11 @@ pub outcome-ack : {limit : ℕ} {r : Receiver} {asks last : Bool} {number : ℕ}
 outcome-ack (out-of-place n) h = leaves-ack (settled-leaves _ _ _ _ _)
 outcome-ack (untaken e w) h = leaves-ack (settled-leaves _ _ _ _ _)
 outcome-ack (thrown-away e w t) h = leaves-ack (numbered-leaves _ _ _ _ _ _ _)
-outcome-ack (in_order o (breaks c)) h = leaves-ack (numbered-leaves _ _ _ _ _ _ _)
-outcome-ack (in_order o (short-first b e s)) h = leaves-ack (numbered-leaves _ _ _ _ _ _ _)
-outcome-ack (in_order o (short-later f s)) h = absurd (h refl)
-outcome-ack (in_order o (goes_on b l less roomy)) h = leaves-ack (numbered-leaves _ _ _ _ _ _ _)
-outcome-ack (in_order o (ends b l all roomy)) h = leaves-ack (numbered-leaves _ _ _ _ _ _ _)
+outcome-ack (in-order o (breaks c)) h = leaves-ack (numbered-leaves _ _ _ _ _ _ _)
+outcome-ack (in-order o (short-first b e s)) h = leaves-ack (numbered-leaves _ _ _ _ _ _ _)
+outcome-ack (in-order o (short-later f s)) h = absurd (h refl)
+outcome-ack (in-order o (goes_on b l less roomy)) h = leaves-ack (numbered-leaves _ _ _ _ _ _ _)
+outcome-ack (in-order o (ends b l all roomy)) h = leaves-ack (numbered-leaves _ _ _ _ _ _ _)
 
 -- an Ack is due with the number now expected, ready unless a message waited before; a break returns to here
 pub record Acked (r : Receiver) (x : Received) : Type 0 where
@@ -104,12 +104,12 @@ pub in_use : {limit : ℕ} {r : Receiver} {asks last : Bool} {number : ℕ} {p :
 in_use (out-of-place n) u = absurd (false≢true u)
 in_use (untaken e w) u = absurd (false≢true u)
 in_use (thrown-away e w t) u = absurd (false≢true u)
-in_use (in_order o (breaks c)) u = absurd (false≢true u)
-in_use (in_order o (short-first b e s)) u = absurd (false≢true u)
-in_use (in_order o (short-later f s)) u = absurd (false≢true u)
-in_use (in_order o (goes_on b l less roomy)) u =
+in_use (in-order o (breaks c)) u = absurd (false≢true u)
+in_use (in-order o (short-first b e s)) u = absurd (false≢true u)
+in_use (in-order o (short-later f s)) u = absurd (false≢true u)
+in_use (in-order o (goes_on b l less roomy)) u =
     record { in_order = o.expected; none-waits = o.none-waits; next = ap (λ (s : Standing). s.expected) (numbered-leaves _ _ _ _ _ _ _).at; fits = brings-fits b (omega arith) }
-in_use (in_order o (ends b l all roomy)) u =
+in_use (in-order o (ends b l all roomy)) u =
     record { in_order = o.expected; none-waits = o.none-waits; next = ap (λ (s : Standing). s.expected) (numbered-leaves _ _ _ _ _ _ _).at; fits = brings-fits b (omega arith) }
 
 module _ (limit : ℕ) (r : Receiver) (asks last : Bool) (number : ℕ) (p : List ℕ) (room : ℕ) (used : is_used (on_data limit r asks last number p room).note ≡ true) where

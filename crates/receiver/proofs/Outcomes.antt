@@ -105,7 +105,7 @@ pub data Outcome (limit : ℕ) (r : Receiver) (asks last : Bool) (number : ℕ) 
   untaken : number ≡ r.at.expected → waiting r ≡ true → Outcome limit r asks last number p room (record { note = Untaken; receiver = kept r asks })
   thrown-away : number ≡ r.at.expected → waiting r ≡ false → r.at.discarding ≡ true
       → Outcome limit r asks last number p room (record { note = ThrownAway; receiver = discarded r asks last })
-  in_order : {x : Received} → InOrder r number → Judged limit r asks last p room x → Outcome limit r asks last number p room x
+  in-order : {x : Received} → InOrder r number → Judged limit r asks last p room x → Outcome limit r asks last number p room x
 
 module _ (limit : ℕ) (r : Receiver) (asks last : Bool) (number : ℕ) (p : List ℕ) (room : ℕ) where
   pub outcome : Outcome limit r asks last number p room (on_data limit r asks last number p room)
@@ -115,7 +115,7 @@ module _ (limit : ℕ) (r : Receiver) (asks last : Bool) (number : ℕ) (p : Lis
       let e = eqb-true number r.at.expected y in
       by Here (waiting r) (λ w. untaken e w) (λ w.
       by Here r.at.discarding (λ t. thrown-away e w t) (λ t.
-      in_order (record { expected = e; none-waits = w; not-discarding = t }) (judged limit r asks last p room))))
+      in-order (record { expected = e; none-waits = w; not-discarding = t }) (judged limit r asks last p room))))
     where
       Here : Received → Type 0
       Here = Outcome limit r asks last number p room

@@ -23,7 +23,7 @@ use Rattle.receiver.specs.declared.Received.{Received}
 use Rattle.receiver.specs.declared.Taking.TheVariants.{Shown, NoneComplete, ShortBuffer}
 use Rattle.receiver.proofs.Laws.{data-acked}
 use Rattle.receiver.proofs.Gaps.{none-ready}
-use Rattle.receiver.proofs.Outcomes.{Brings, at_first, at-later, breaks, short-first, short-later, goes_on, ends, Outcome, out-of-place, untaken, thrown-away, in_order, outcome}
+use Rattle.receiver.proofs.Outcomes.{Brings, at_first, at-later, breaks, short-first, short-later, goes_on, ends, Outcome, out-of-place, untaken, thrown-away, in-order, outcome}
 
 -- ---- calls that no frame makes
 
@@ -103,7 +103,7 @@ flags_of r p = if eqb r.at.begun.length 0 then flags_in p else r.at.begun.flags
 abbrev pub fill_of : Receiver → List ℕ → ℕ
 fill_of r p = if eqb r.at.begun.length 0 then length p - 2 else r.at.fill + length p
 
--- "That frame is numbered and writes nothing; if it had no EOM, the following in_order frames are numbered, acknowledged and thrown away, answer 0, up to and including the next EOM"
+-- "That frame is numbered and writes nothing; if it had no EOM, the following in-order frames are numbered, acknowledged and thrown away, answer 0, up to and including the next EOM"
 abbrev pub ThrownOff : (r : Receiver) (asks last : Bool) → Receiver → Type 0
 ThrownOff r asks last x = x
     ≡ record {
@@ -196,12 +196,12 @@ outcome-left : {limit : ℕ} {r : Receiver} {asks last : Bool} {number : ℕ} {p
 outcome-left {r = r} {asks = asks} (out-of-place n) = kept-left r asks _ (none-ready r)
 outcome-left {r = r} {asks = asks} (untaken e w) = kept-left r asks false (rw w)
 outcome-left {r = r} {asks = asks} {last = last} (thrown-away e w t) = thrown-left r asks last w
-outcome-left {r = r} {asks = asks} {last = last} (in_order o (breaks c)) = thrown-left r asks last o.none-waits
-outcome-left {r = r} {asks = asks} {last = last} (in_order o (short-first b e s)) = thrown-left r asks last o.none-waits
-outcome-left (in_order o (short-later f s)) = refl
-outcome-left {r = r} {asks = asks} {last = last} {p = p} (in_order o (goes_on b l less roomy)) =
+outcome-left {r = r} {asks = asks} {last = last} (in-order o (breaks c)) = thrown-left r asks last o.none-waits
+outcome-left {r = r} {asks = asks} {last = last} (in-order o (short-first b e s)) = thrown-left r asks last o.none-waits
+outcome-left (in-order o (short-later f s)) = refl
+outcome-left {r = r} {asks = asks} {last = last} {p = p} (in-order o (goes_on b l less roomy)) =
     let e = brings-length b in used-left r asks last p o.none-waits e.0 e.1
-outcome-left {r = r} {asks = asks} {last = last} {p = p} (in_order o (ends b l all roomy)) = completed-left r asks last p o.none-waits (brings-length b).0
+outcome-left {r = r} {asks = asks} {last = last} {p = p} (in-order o (ends b l all roomy)) = completed-left r asks last p o.none-waits (brings-length b).0
 
 -- a frame leaves what its receipt says
 pub data-left : (limit : ℕ) (r : Receiver) (asks last : Bool) (number : ℕ) (p : List ℕ) (room : ℕ)
@@ -222,11 +222,11 @@ unfolding numbered settled
 outcome-unasked (out-of-place n) = refl
 outcome-unasked (untaken e w) = refl
 outcome-unasked (thrown-away e w t) = refl
-outcome-unasked (in_order o (breaks c)) = refl
-outcome-unasked (in_order o (short-first b e s)) = refl
-outcome-unasked (in_order o (short-later f s)) = refl
-outcome-unasked (in_order o (goes_on b l less roomy)) = refl
-outcome-unasked (in_order o (ends b l all roomy)) = refl
+outcome-unasked (in-order o (breaks c)) = refl
+outcome-unasked (in-order o (short-first b e s)) = refl
+outcome-unasked (in-order o (short-later f s)) = refl
+outcome-unasked (in-order o (goes_on b l less roomy)) = refl
+outcome-unasked (in-order o (ends b l all roomy)) = refl
 
 -- one without AR leaves the Ack as it was
 pub ack-unasked : (limit : ℕ) (r : Receiver) (last : Bool) (number : ℕ) (p : List ℕ) (room : ℕ) → (on_data limit r false last number p room).receiver.ack ≡ r.ack
@@ -268,11 +268,11 @@ unfolding numbered settled
 outcome-back (out-of-place n) = refl
 outcome-back (untaken e w) = refl
 outcome-back (thrown-away e w t) = refl
-outcome-back (in_order o (breaks c)) = refl
-outcome-back (in_order o (short-first b e s)) = refl
-outcome-back (in_order o (short-later f s)) = refl
-outcome-back (in_order o (goes_on b l less roomy)) = rw l
-outcome-back (in_order o (ends b l all roomy)) = rw l
+outcome-back (in-order o (breaks c)) = refl
+outcome-back (in-order o (short-first b e s)) = refl
+outcome-back (in-order o (short-later f s)) = refl
+outcome-back (in-order o (goes_on b l less roomy)) = rw l
+outcome-back (in-order o (ends b l all roomy)) = rw l
 
 -- "where it stood when an Ack last became due or a message last ended, whichever is later"
 pub data-back : (limit : ℕ) (r : Receiver) (asks last : Bool) (number : ℕ) (p : List ℕ) (room : ℕ) → Back r asks last (on_data limit r asks last number p room)
@@ -289,11 +289,11 @@ unfolding numbered settled
 outcome-inside (out-of-place n) = record { back = refl; complete = refl; ack = refl }
 outcome-inside (untaken e w) = record { back = refl; complete = refl; ack = refl }
 outcome-inside (thrown-away e w t) = record { back = refl; complete = refl; ack = refl }
-outcome-inside (in_order o (breaks c)) = record { back = refl; complete = refl; ack = refl }
-outcome-inside (in_order o (short-first b e s)) = record { back = refl; complete = refl; ack = refl }
-outcome-inside (in_order o (short-later f s)) = record { back = refl; complete = refl; ack = refl }
-outcome-inside (in_order o (goes_on b l less roomy)) = record { back = refl; complete = refl; ack = refl }
-outcome-inside (in_order o (ends b l all roomy)) = absurd (false≢true l)
+outcome-inside (in-order o (breaks c)) = record { back = refl; complete = refl; ack = refl }
+outcome-inside (in-order o (short-first b e s)) = record { back = refl; complete = refl; ack = refl }
+outcome-inside (in-order o (short-later f s)) = record { back = refl; complete = refl; ack = refl }
+outcome-inside (in-order o (goes_on b l less roomy)) = record { back = refl; complete = refl; ack = refl }
+outcome-inside (in-order o (ends b l all roomy)) = absurd (false≢true l)
 
 pub inside-leaves : (limit : ℕ) (r : Receiver) (number : ℕ) (p : List ℕ) (room : ℕ) → Inside r (on_data limit r false false number p room).receiver
 inside-leaves limit r number p room = outcome-inside (outcome limit r false false number p room)

@@ -117,7 +117,8 @@ fn paste(payload: &[u8], buffer: &mut [u8], at: usize)
     requires { at + length payload.now ≤ length buffer.old }
     ensures { buffer.new ≡ pasted buffer.old at payload.now }
 {
-    bytes::copy(payload, &mut buffer[at..]);
+    let part = &mut buffer[at..at + payload.len()];
+    part.copy_from_slice(payload);
 }
 
 // What becomes of a frame that brings a message to fill bytes, in a buffer of room bytes.

@@ -14,8 +14,7 @@ use Rattle.receiver.specs.declared.Receiver.{Receiver}
 use Rattle.receiver.specs.declared.Receipt.{Receipt}
 use Rattle.receiver.specs.declared.Received.{Received}
 use Rattle.receiver.proofs.Laws.{used-fits, buffered-unused}
-use Rattle.receiver.proofs.Receiver.receive.Statement.{statement}
-use Rattle.receiver.proofs.Receiver.receive.Tie as tie
+use Rattle.receiver.proofs.Receiver.receive.Goals as goal
 
 -- a telegram as it was judged, and the flag that says whether its frame is used
 module _ (r : Receiver) (k : Telegram) (p b : List ℕ) {x : Received} {u : Bool} (e : x ≡ received longest r k p (length b)) (i : u ≡ is_used x.note) where
@@ -61,20 +60,23 @@ module _ (r : Receiver) (k : Telegram) (p b : List ℕ) {x : Received} {u : Bool
       unfolding buffered copied
       later-buffer after h = rw (h, used, at-later)
 
-pub receive-spec : {M : Type 1} → statement M
-receive-spec =
-    tie.close
-    (tie.spec
-    (λ c κs. search rules)
-    (λ c κs. search rules)
-    (λ c. (search, search unused))
-    (λ c. search two-first)
-    (λ c. search two-first)
-    (λ c. search rules)
-    (λ c κs. search first_fits)
-    (λ c. search rules)
-    (λ c. (search, search first-buffer))
-    (λ c. search rules)
-    (λ c κs. search later-fits)
-    (λ c. search rules)
-    (λ c. (search, search later-buffer)))
+pub returns-then-not-is_used : goal.returns-then-not-is_used
+returns-then-not-is_used c = record { value = search rules; buffer_after = search unused }
+
+pub slice_bounds-paste-count : goal.slice_bounds-paste-count
+slice_bounds-paste-count c = search two-first
+
+pub slice_bounds-paste-start : goal.slice_bounds-paste-start
+slice_bounds-paste-start c = search two-first
+
+pub paste-requires : goal.paste-requires
+paste-requires c = search first_fits
+
+pub returns-then-begun-eq0 : goal.returns-then-begun-eq0
+returns-then-begun-eq0 c = record { value = search rules; buffer_after = search first-buffer }
+
+pub paste-requires-2 : goal.paste-requires-2
+paste-requires-2 c = search later-fits
+
+pub returns : goal.returns
+returns c = record { value = search rules; buffer_after = search later-buffer }

@@ -8,8 +8,7 @@ use borrow.Author.Rules.{rules}
 use borrow.Author.Tests.{ne_eqb}
 use Rattle.opening.specs.Opening.{id_of, clear, refusal, reply_read}
 use Rattle.opening.specs.declared.Reply.TheVariants.{Positive, Refused, Malformed}
-use Rattle.opening.proofs.read_reply.Statement.{statement}
-use Rattle.opening.proofs.read_reply.Tie as tie
+use Rattle.opening.proofs.read_reply.Goals as goal
 
 module _ (s : List ℕ) (receive : ℕ) where
   -- what is tested of seven bytes: a refusal, and then a positive reply with our own ID as it was read
@@ -36,20 +35,14 @@ module _ (s : List ℕ) (receive : ℕ) where
     unfolding reply_read
     other-bytes t = rw (n, no, ← o, t)
 
-pub read-reply-spec : {M : Type 1} → statement M
-read-reply-spec =
-    tie.close
-    (tie.spec
-    (λ c. search other_length)
-    (λ c. search rules)
-    (λ c. search rules)
-    (λ c. search refuses)
-    (λ c. search rules)
-    (λ c. search rules)
-    (λ c. search rules)
-    (λ c κs. tt)
-    (λ c. search rules)
-    (λ c. search rules)
-    (λ c κs. tt)
-    (λ c. search opens)
-    (λ c. search other-bytes))
+pub returns-then-s-ne7 : goal.returns-then-s-ne7
+returns-then-s-ne7 c = search other_length
+
+pub returns-then-zero-opcode : goal.returns-then-zero-opcode
+returns-then-zero-opcode c = search refuses
+
+pub returns-then-zero-opcode-2 : goal.returns-then-zero-opcode-2
+returns-then-zero-opcode-2 c = search opens
+
+pub returns : goal.returns
+returns c = search other-bytes

@@ -8,8 +8,7 @@ use borrow.Author.Rules.{rules}
 use borrow.Author.Tests.{ne_eqb}
 use Rattle.opening.specs.Short.{short_reply_read}
 use Rattle.opening.specs.declared.Reply.TheVariants.{Positive, Refused, Malformed}
-use Rattle.opening.proofs.short.read_reply.Statement.{statement}
-use Rattle.opening.proofs.short.read_reply.Tie as tie
+use Rattle.opening.proofs.short.read_reply.Goals as goal
 
 module _ (s : List ℕ) where
   -- what is tested of three bytes: an opcode behind 00
@@ -33,15 +32,14 @@ module _ (s : List ℕ) where
     unfolding short_reply_read
     other-bytes t = rw (n, no, t)
 
-pub read-reply-spec : {M : Type 1} → statement M
-read-reply-spec =
-    tie.close
-    (tie.spec
-    (λ c. search other_length)
-    (λ c. search rules)
-    (λ c. search rules)
-    (λ c. search refuses)
-    (λ c. search rules)
-    (λ c κs. tt)
-    (λ c. search opens)
-    (λ c. search other-bytes))
+pub returns-then-s-ne3 : goal.returns-then-s-ne3
+returns-then-s-ne3 c = search other_length
+
+pub returns-then-zero-opcode : goal.returns-then-zero-opcode
+returns-then-zero-opcode c = search refuses
+
+pub returns-then-zero-opcode-2 : goal.returns-then-zero-opcode-2
+returns-then-zero-opcode-2 c = search opens
+
+pub returns : goal.returns
+returns c = search other-bytes

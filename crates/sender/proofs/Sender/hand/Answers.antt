@@ -15,8 +15,7 @@ use Rattle.sender.specs.declared.Handing.TheVariants.{Frame}
 use Rattle.sender.specs.declared.Handed.{Handed}
 use Rattle.sender.specs.Sending.{frame_due, first_number, advanced, handed}
 use Rattle.sender.proofs.Frames.{frame_due-shows}
-use Rattle.sender.proofs.Sender.hand.Statement.{statement}
-use Rattle.sender.proofs.Sender.hand.Tie as tie
+use Rattle.sender.proofs.Sender.hand.Goals as goal
 
 module _ (s : Sender) {due : Bool} (d : due ≡ frame_due s) (is : not due ≡ false) where
   -- a due frame has a number below the message's frames, and these are few
@@ -30,18 +29,18 @@ module _ (s : Sender) {due : Bool} (d : due ≡ frame_due s) (is : not due ≡ f
   unfolding handed
   frame-handed t m l x f p = rw (x, p, f, ← d) (search branches)
 
-pub hand-spec : {M : Type 1} → statement M
+pub returns-then-not-frame_due : goal.returns-then-not-frame_due
 unfolding handed
-hand-spec =
-    tie.close
-    (tie.spec
-    (λ c κs. tt)
-    (λ c κs. tt)
-    (λ c. search branches)
-    (λ c. search rules)
-    (λ c κs. tt)
-    (λ c. search branches)
-    (λ c κs. search next_fits)
-    (λ c κs. tt)
-    (λ c κs. tt)
-    (λ c. search frame-handed))
+returns-then-not-frame_due c = search branches
+
+pub returns-then-message-length : goal.returns-then-message-length
+unfolding handed
+returns-then-message-length c = search branches
+
+pub advanced-requires : goal.advanced-requires
+unfolding handed
+advanced-requires c = search next_fits
+
+pub returns : goal.returns
+unfolding handed
+returns c = search frame-handed

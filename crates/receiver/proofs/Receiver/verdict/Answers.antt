@@ -9,8 +9,7 @@ use Rattle.receiver.specs.declared.Brought.{Brought}
 use Rattle.receiver.specs.declared.Receiver.{Receiver}
 use Rattle.receiver.specs.declared.Receipt.{Receipt}
 use Rattle.receiver.proofs.Verdict.{order-notes}
-use Rattle.receiver.proofs.Receiver.verdict.Statement.{statement}
-use Rattle.receiver.proofs.Receiver.verdict.Tie as tie
+use Rattle.receiver.proofs.Receiver.verdict.Goals as goal
 
 -- the side that an equation leads to
 abbrev target : {A : Type 0} {x y : A} → x ≡ y → A
@@ -21,13 +20,14 @@ by_order : (limit : ℕ) (r : Receiver) (asks last : Bool) (p : List ℕ) (room 
     → v ≡ target (order-notes limit r asks last p room b e) → v ≡ (in_order limit r asks last p room).note
 by_order limit r asks last p room b e v h = rw (order-notes limit r asks last p room b e) h
 
-pub verdict-spec : {M : Type 1} → statement M
-verdict-spec =
-    tie.close
-    (tie.spec
-    (λ c. search (by_order, branches))
-    (λ c. search (by_order, branches))
-    (λ c. search rules)
-    (λ c. search (by_order, branches))
-    (λ c κs. search rules)
-    (λ c. search (by_order, branches)))
+pub returns-then-first-size : goal.returns-then-first-size
+returns-then-first-size c = search (by_order, branches)
+
+pub returns-then-first-length : goal.returns-then-first-length
+returns-then-first-length c = search (by_order, branches)
+
+pub returns-then-first-room : goal.returns-then-first-room
+returns-then-first-room c = search (by_order, branches)
+
+pub returns : goal.returns
+returns c = search (by_order, branches)

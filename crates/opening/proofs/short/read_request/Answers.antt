@@ -6,8 +6,7 @@ use borrow.Author.Rules.{rules}
 use borrow.Author.Tests.{ne_eqb}
 use Rattle.opening.specs.Short.{short_request_read}
 use Rattle.opening.specs.declared.Request.TheVariants.{Open, Malformed}
-use Rattle.opening.proofs.short.read_request.Statement.{statement}
-use Rattle.opening.proofs.short.read_request.Tie as tie
+use Rattle.opening.proofs.short.read_request.Goals as goal
 
 module _ (s : List ℕ) where
   other_length : (length s ≡ 3 → ⊥) → Malformed ≡ short_request_read s
@@ -22,14 +21,11 @@ module _ (s : List ℕ) where
   unfolding short_request_read
   other-bytes n t = rw (n, ne_eqb _ _ t)
 
-pub read-request-spec : {M : Type 1} → statement M
-read-request-spec =
-    tie.close
-    (tie.spec
-    (λ c. search other_length)
-    (λ c. search rules)
-    (λ c. search rules)
-    (λ c. search rules)
-    (λ c κs. tt)
-    (λ c. search opens)
-    (λ c. search other-bytes))
+pub returns-then-s-ne3 : goal.returns-then-s-ne3
+returns-then-s-ne3 c = search other_length
+
+pub returns-then-s : goal.returns-then-s
+returns-then-s c = search opens
+
+pub returns : goal.returns
+returns c = search other-bytes

@@ -8,8 +8,7 @@ use borrow.Author.Rules.{rules}
 use borrow.Author.Tests.{ne_eqb}
 use Rattle.opening.specs.Opening.{id_of, clear, request_read}
 use Rattle.opening.specs.declared.Request.TheVariants.{Open, Malformed}
-use Rattle.opening.proofs.read_request.Statement.{statement}
-use Rattle.opening.proofs.read_request.Tie as tie
+use Rattle.opening.proofs.read_request.Goals as goal
 
 module _ (s : List ℕ) where
   -- what is tested of seven bytes
@@ -28,18 +27,11 @@ module _ (s : List ℕ) where
   unfolding request_read
   other-bytes n t = rw (n, t)
 
-pub read-request-spec : {M : Type 1} → statement M
-read-request-spec =
-    tie.close
-    (tie.spec
-    (λ c. search other_length)
-    (λ c. search rules)
-    (λ c. search rules)
-    (λ c. search rules)
-    (λ c. search rules)
-    (λ c. search rules)
-    (λ c. search rules)
-    (λ c. search rules)
-    (λ c κs. tt)
-    (λ c. search opens)
-    (λ c. search other-bytes))
+pub returns-then-s-ne7 : goal.returns-then-s-ne7
+returns-then-s-ne7 c = search other_length
+
+pub returns-then-s-high : goal.returns-then-s-high
+returns-then-s-high c = search opens
+
+pub returns : goal.returns
+returns c = search other-bytes
