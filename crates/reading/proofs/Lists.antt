@@ -50,4 +50,4 @@ module _ (limit : ℕ) where
   pub reads_both : (h : Reading) (fs gs : List (List ℕ)) → reads limit h (fs ++ gs) ≡ reads limit (reads limit h fs) gs
   unfolding reads
   reads_both h [] gs = refl
-  reads_both h (s ∷ fs) gs = reads_both _ fs gs
+  reads_both h (s ∷ fs) gs = reads_both (arrives limit h (sorted s).kind (drop 1 s)) fs gs

@@ -10,15 +10,11 @@ use Rattle.channel.specs.declared.Tests.{Tests}
 use Rattle.channel.specs.declared.Channel.{Channel}
 use Rattle.channel.specs.declared.Answered.{Answered}
 use Rattle.channel.specs.Opened.{wait_ends, repeats_used_up, later, used_up, went, elapsed}
-use Rattle.channel.proofs.Channel.elapse.Statement.{statement}
-use Rattle.channel.proofs.Channel.elapse.Tie as tie
+use Rattle.channel.proofs.Channel.elapse.Goals as goal
 
 -- one more test fits its byte where fewer than are allowed went unanswered
 one-more-fits : (unanswered allowed : ℕ) → unanswered < allowed → allowed < 256 → unanswered + 1 < 256
 one-more-fits u a less byte = omega arith
-
-allowed-fits : (d : tie.Start) → d.args.self.parameters.allowed < 256
-allowed-fits d = search
 
 -- what the callees found: the sending half after n tenths, whether its repeats are used up, and whether a test's wait ends
 module _ (c : Channel) (n : ℕ) {p : Passed} {spent : Bool} (e : p ≡ passed c.parameters.terms c.sender n) (s : spent ≡ repeats_used_up p.note) where
@@ -40,19 +36,17 @@ module _ (c : Channel) (n : ℕ) {p : Passed} {spent : Bool} (e : p ≡ passed c
     unfolding elapsed
     tests-out now most k = rw (k, ← e) (search branches)
 
-pub elapse-spec : {M : Type 1} → statement M
-elapse-spec =
-    tie.close
-    (tie.spec
-    (λ c κs. search rules)
-    (λ c κs. search rules)
-    (λ c. search repeats-out)
-    (λ c κs. search rules)
-    (λ c κs. search rules)
-    (λ c κs. search rules)
-    (λ c. search runs_on)
-    (λ c. record { fits = one-more-fits _ _ c.if3.true (search allowed-fits) })
-    (λ c κs. search rules)
-    (λ c κs. search rules)
-    (λ c. search one_more)
-    (λ c. search tests-out))
+pub returns-then-repeats_used_up : goal.returns-then-repeats_used_up
+returns-then-repeats_used_up c = search repeats-out
+
+pub returns-then-not-wait_ends : goal.returns-then-not-wait_ends
+returns-then-not-wait_ends c = search runs_on
+
+pub overflow_add-tests : goal.overflow_add-tests
+overflow_add-tests c = record { fits = one-more-fits _ _ c.if-unanswered-allowed.true (omega arith) }
+
+pub returns-then-unanswered-allowed : goal.returns-then-unanswered-allowed
+returns-then-unanswered-allowed c = search one_more
+
+pub returns : goal.returns
+returns c = search tests-out

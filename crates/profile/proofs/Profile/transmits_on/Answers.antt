@@ -9,8 +9,7 @@ use Rattle.profile.specs.declared.Range.{Range}
 use Rattle.profile.specs.declared.Profile.{Profile}
 use Rattle.profile.specs.Profile.{within}
 use Rattle.profile.specs.Opening.{named}
-use Rattle.profile.proofs.Profile.transmits_on.Statement.{statement}
-use Rattle.profile.proofs.Profile.transmits_on.Tie as tie
+use Rattle.profile.proofs.Profile.transmits_on.Goals as goal
 
 -- what lies in a range has as many bits as its end
 at_most : (r : Range) (n : ℕ) → within r n ≡ true → n ≤ r.most
@@ -27,13 +26,11 @@ module _ (p : Profile) (id : ℕ) (b : Bool) (is : b ≡ within p.transmits (p.o
   unfolding named
   inside e = rw (← is, e)
 
-pub transmits-on-spec : {M : Type 1} → statement M
-transmits-on-spec =
-    tie.close
-    (tie.spec
-    (λ c. search rules)
-    (λ c. search rules)
-    (λ c κs. search rules)
-    (λ c. outside _ _ _ c.before.has.ensures (not-true _ c.if1.true))
-    (λ c. let most = at_most _ _ (sym c.before.has.ensures ∙ not-false _ c.if1.false) in search rules)
-    (λ c. inside _ _ _ c.before.has.ensures (not-false _ c.if1.false)))
+pub returns-then-not-has : goal.returns-then-not-has
+returns-then-not-has c = outside _ _ _ c.has.ensures c.if-not-has.true
+
+pub overflow_cast-result : goal.overflow_cast-result
+overflow_cast-result c = let most = at_most _ _ (sym c.has.ensures ∙ c.if-not-has.false) in search rules
+
+pub returns : goal.returns
+returns c = inside _ _ _ c.has.ensures c.if-not-has.false

@@ -8,8 +8,7 @@ use Rattle.telegram.specs.declared.kinds.Sorted.{Sorted}
 use Rattle.telegram.specs.declared.kinds.Telegram.TheVariants.{Malformed}
 use Rattle.profile.specs.declared.Profile.{Profile}
 use Rattle.profile.specs.Profile.{test_or_break, sorted_by}
-use Rattle.profile.proofs.Profile.sort.Statement.{statement}
-use Rattle.profile.proofs.Profile.sort.Tie as tie
+use Rattle.profile.proofs.Profile.sort.Goals as goal
 
 module _ (p : Profile) (s : List ℕ) (x : Sorted) (is : x ≡ sorted s) where
   with-tests : p.tests ≡ true → x ≡ sorted_by p s
@@ -28,12 +27,11 @@ module _ (p : Profile) (s : List ℕ) (x : Sorted) (is : x ≡ sorted s) where
     unfolding sorted_by
     others h = rw (← of-kind, h) is
 
-pub sort-spec : {M : Type 1} → statement M
-sort-spec =
-    tie.close
-    (tie.spec
-    (λ c κs. search rules)
-    (λ c. search with-tests)
-    (λ c κs. search rules)
-    (λ c. search none-there)
-    (λ c. search others))
+pub returns-then-self : goal.returns-then-self
+returns-then-self c = search with-tests
+
+pub returns-then-test_or_break : goal.returns-then-test_or_break
+returns-then-test_or_break c = search none-there
+
+pub returns : goal.returns
+returns c = search others

@@ -1,0 +1,5 @@
+use borrow.Author.Rules.{rules}
+use Rattle.channel.proofs.Channel.fresh.Goals as goal
+
+pub returns : goal.returns
+returns c = rw (c.fresh-receiver.ensures, c.fresh-sender.ensures)

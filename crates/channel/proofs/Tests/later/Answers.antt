@@ -1,0 +1,5 @@
+use borrow.Author.Rules.{rules}
+use Rattle.channel.proofs.Tests.later.Goals as goal
+
+pub returns : goal.returns
+returns c = rw (c.less-2.ensures, c.less.ensures)
