@@ -99,7 +99,7 @@ module _ {limit room start used block : ℕ} {d : Direction} where
   receive-keeps : limit ≤ 4095 → length (current d.history) ≤ room → (places : List ℕ) (v : Invariant limit room start used block places d)
       → (fate : Fate) (l : List DataFrame) → d.frames ≡ l → Kept limit room (receiving limit fate l d)
   receive-keeps small roomy places v fate [] e = (start, used, block, places, v)
-  receive-keeps small roomy [] v fate (f ∷ l) e = absurd (subst (Forward start _ (current d.history) d.terms.block (start + used) []) e v.forward)
+  receive-keeps small roomy [] v fate (f ∷ l) e = absurd (subst (Forward start (start + d.sender.high) (current d.history) d.terms.block (start + used) []) e v.forward)
   receive-keeps small roomy (i ∷ is) v goes (f ∷ l) e =
       let p = subst (Forward start (start + d.sender.high) (current d.history) d.terms.block (start + used) (i ∷ is)) e v.forward in
       let w = frame-gone i is v f l e d.history.losses in

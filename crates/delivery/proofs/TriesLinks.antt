@@ -22,7 +22,7 @@ use Rattle.delivery.proofs.Tries.Rises.{risen, rising}
 
 module _ {start end : ℕ} {t : Try} where
   -- a row that fewer tries are held to, from an earlier place on
-  pub row_loose : {spared spared' : Type 0} {from from' next : ℕ} {l : List DataFrame} → (spared' → spared) → (spared' → from' ≡ from) → from' ≤ from
+  pub row_loose : {spared spared' : Type 0} {next from from' : ℕ} {l : List DataFrame} → (spared' → spared) → (spared' → from' ≡ from) → from' ≤ from
       → Row start end t spared next from l → Row start end t spared' next from' l
   row_loose {from'} s e h (over a b) = over {from = from'} (omega arith) (λ p. let x = e p in let y = b (s p) in omega arith)
   row_loose {from'} s e h (frame i a b c d r) = frame {from = from'} i (omega arith) b (λ p. let x = e p in let y = c (s p) in omega arith) d (row_loose s (λ _. refl) (omega arith) r)
@@ -37,7 +37,7 @@ module _ {start end : ℕ} {t : Try} where
   row-end h (frame i a b c d r) = absurd (omega arith)
 
   -- one frame more behind it
-  row_more : {spared : Type 0} {from next : ℕ} {l : List DataFrame} {f : DataFrame} → Sends start end t next f → Row start end t spared next from l
+  row_more : {spared : Type 0} {next from : ℕ} {l : List DataFrame} {f : DataFrame} → Sends start end t next f → Row start end t spared next from l
       → Row start end t spared (next + 1) from (l ++ (f ∷ []))
   row_more {next} s (over a b) = frame next a (omega arith) (λ p. let x = b p in omega arith) s (over {from = next + 1} (omega arith) (λ _. refl))
   row_more s (frame i a b c d r) = frame i a (omega arith) c d (row_more s r)

@@ -1,4 +1,3 @@
 pub mod Take
-pub mod TakeMet
 pub mod Rules
 pub mod Padding

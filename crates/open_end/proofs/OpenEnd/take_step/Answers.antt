@@ -7,8 +7,7 @@ use Rattle.channel.specs.Opened.{with_receiver}
 use Rattle.open_end.specs.declared.OpenEnd.{OpenEnd}
 use Rattle.open_end.specs.OpenEnd.{with_channel, take_answer, taken_at}
 use borrow.Author.Rules.{rules}
-use Rattle.open_end.proofs.OpenEnd.take_step.Statement.{statement}
-use Rattle.open_end.proofs.OpenEnd.take_step.Tie as tie
+use Rattle.open_end.proofs.OpenEnd.take_step.Goals as goal
 
 -- what the receiver's take comes to, with the answer to it
 takes : (e : OpenEnd) (room : ℕ) (t : Took) (a : Answer) → t ≡ took e.channel.receiver room → a ≡ take_answer t.note
@@ -16,10 +15,5 @@ takes : (e : OpenEnd) (room : ℕ) (t : Took) (a : Answer) → t ≡ took e.chan
 unfolding taken_at
 takes e room t a is answers = rw (answers, is)
 
-pub take-step-spec : {M : Type 1} → statement M
-take-step-spec =
-    tie.close
-    (tie.spec
-    (λ c κs. search rules)
-    (λ c κs. search rules)
-    (λ c. search takes))
+pub returns : goal.returns
+returns c = search takes

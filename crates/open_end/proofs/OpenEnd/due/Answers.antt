@@ -7,8 +7,7 @@ use Rattle.open_end.specs.declared.Frame.{Frame}
 use Rattle.open_end.specs.declared.OpenEnd.{OpenEnd}
 use Rattle.open_end.specs.OpenEnd.{with_channel, frame_on, due_at}
 use borrow.Author.Rules.{rules}
-use Rattle.open_end.proofs.OpenEnd.due.Statement.{statement}
-use Rattle.open_end.proofs.OpenEnd.due.Tie as tie
+use Rattle.open_end.proofs.OpenEnd.due.Goals as goal
 
 -- what the channel has due, as a frame of the end
 hands : (e : OpenEnd) (m : List ℕ) (d : Due) (f : Frame) → d ≡ due e.channel m → f ≡ frame_on e.transmit d.given d.payload
@@ -16,10 +15,5 @@ hands : (e : OpenEnd) (m : List ℕ) (d : Due) (f : Frame) → d ≡ due e.chann
 unfolding due_at
 hands e m d f is framed = rw (framed, is)
 
-pub due-spec : {M : Type 1} → statement M
-due-spec =
-    tie.close
-    (tie.spec
-    (λ c κs. search rules)
-    (λ c κs. search rules)
-    (λ c. search hands))
+pub returns : goal.returns
+returns c = search hands

@@ -9,8 +9,7 @@ use Rattle.arrival.specs.Arrived.{arrived, buffered_by}
 use Rattle.open_end.specs.declared.OpenEnd.{OpenEnd}
 use Rattle.open_end.specs.OpenEnd.{with_channel, arrived_at, buffered_at}
 use borrow.Author.Rules.{rules}
-use Rattle.open_end.proofs.OpenEnd.arrive.Statement.{statement}
-use Rattle.open_end.proofs.OpenEnd.arrive.Tie as tie
+use Rattle.open_end.proofs.OpenEnd.arrive.Goals as goal
 
 -- of a telegram and the bytes behind its first
 module _ (e : OpenEnd) (t : Telegram) (s : List ℕ) (p : List ℕ) (behind : p ≡ drop 1 s) where
@@ -22,11 +21,5 @@ module _ (e : OpenEnd) (t : Telegram) (s : List ℕ) (p : List ℕ) (behind : p 
   unfolding buffered_at
   buffers b b' is = rw (is, behind)
 
-pub arrive-spec : {M : Type 1} → statement M
-arrive-spec =
-    tie.close
-    (tie.spec
-    (λ c κs. search rules)
-    (λ c κs. search rules)
-    (λ c. search rules)
-    (λ c. (search arrives, search buffers)))
+pub returns : goal.returns
+returns c = record { value = search arrives; buffer_after = search buffers }
