@@ -5,23 +5,31 @@
 --     every_held    so does what holds of every row whose condition holds
 use Prim.Native.Nat.{ℕ}
 use mathlib.Core.Bool.{true, true≢false, false≢true}
-use mathlib.Core.Logic.{◌↔◌, inl, inr, ⊎_elim}
-use mathlib.Core.Path.{◌≡◌, refl}
+use mathlib.Core.Logic.{◌↔◌, ◌⊎◌, inl, inr, ⊎_elim}
+use mathlib.Core.Path.{◌≡◌, refl, sym, ◌∙◌, subst}
 use lib.Dec.{eqb}
 use borrow.Author.Tests.{eq-eqb, eqb-false}
 use Rattle.laws.specs.If.{if◌then◌else◌}
 use Rattle.laws.proofs.Cases.{by, either}
 use Rattle.open_end.specs.declared.answers.Said.{Said}
-use Rattle.open_rows.specs.Tables.{Table, always, ◌or_else◌, told_by, Given, Says}
+use Rattle.open_rows.specs.Tables.{Row, Table, always, ◌or_else◌, told_by, Given, Says}
 
 module _ {A : Type 0} where
+  -- a table whose first row holds, and one whose first row does not
+  told-first : (r : Row A) (t : Table A) → r.holds ≡ true → told_by (r or_else t) ≡ (r.says, r.leaves)
+  told-first r t e = rw e
+
+  told-rest : (r : Row A) (t : Table A) → r.holds ≡ false → told_by (r or_else t) ≡ told_by t
+  told-rest r t e = rw e
+
   table-given : (n : ℕ) (t : Table A) → ((told_by t).0.number ≡ n) ↔ Given n (told_by t).1 t
   table-given n (always s x) = (λ e. (e, refl), λ g. g.0)
   table-given n (r or_else t) =
       let rest = table-given n t in
+      let Goal = λ (x : Said × A). (x.0.number ≡ n) ↔ (((r.holds ≡ true) × (r.says.number ≡ n) × (x.1 ≡ r.leaves)) ⊎ ((r.holds ≡ false) × Given n x.1 t)) in
       either r.holds
-      (λ e. rw e (λ k. inl (refl, k, refl), ⊎_elim (λ g. g.1) (λ g. absurd (true≢false g.0))))
-      (λ e. rw e (λ k. inr (refl, rest.0 k), ⊎_elim (λ g. absurd (false≢true g.0)) (λ g. rest.1 g.1)))
+      (λ e. subst Goal (sym (told-first r t e)) ((λ k. inl (e, k, refl)), ⊎_elim (λ g. g.1) (λ g. absurd (true≢false (sym e ∙ g.0)))))
+      (λ e. subst Goal (sym (told-rest r t e)) ((λ k. inr (e, rest.0 k)), ⊎_elim (λ g. absurd (false≢true (sym e ∙ g.0))) (λ g. rest.1 g.1)))
 
   -- every row of the number n leaves y where it holds
   abbrev pub Leaving : ℕ → A → Table A → Type 0

@@ -1,0 +1,5 @@
+use borrow.Author.Rules.{rules}
+use Rattle.connection.proofs.Connection.agreeing.Goals as goal
+
+pub returns : goal.returns
+returns c = rw (c.unopened.ensures, c.new_attempt.ensures)

@@ -1,0 +1,5 @@
+use borrow.Author.Rules.{rules}
+use Rattle.connection.proofs.Connection.hand_nothing.Goals as goal
+
+pub returns : goal.returns
+returns c = rw (c.no_frame.ensures, c.tell.ensures)

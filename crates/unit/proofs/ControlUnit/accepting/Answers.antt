@@ -1,0 +1,5 @@
+use borrow.Author.Rules.{rules}
+use Rattle.unit.proofs.ControlUnit.accepting.Goals as goal
+
+pub returns : goal.returns
+returns c = rw (c.fresh-self.ensures, c.agree.ensures)

@@ -1,0 +1,15 @@
+use Rattle.unit.specs.Calls.{open_taken}
+use borrow.Author.Rules.{rules}
+use Rattle.unit.proofs.ControlUnit.open_takes.Goals as goal
+
+pub take_step-t-requires : goal.take_step-t-requires
+unfolding open_taken
+take_step-t-requires c = search rules
+
+pub shows-requires : goal.shows-requires
+unfolding open_taken
+shows-requires c = search rules
+
+pub returns : goal.returns
+unfolding open_taken
+returns c = rw (c.shows.ensures, c.take_step-t.ensures)
