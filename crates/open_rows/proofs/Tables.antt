@@ -4,7 +4,7 @@
 --     every    what holds of every row, holds of it
 --     every_held    so does what holds of every row whose condition holds
 use Prim.Native.Nat.{ℕ}
-use mathlib.Core.Bool.{true, true≢false, false≢true}
+use mathlib.Core.Bool.{true, false, true≢false, false≢true}
 use mathlib.Core.Logic.{◌↔◌, ◌⊎◌, inl, inr, ⊎_elim}
 use mathlib.Core.Path.{◌≡◌, refl, sym, ◌∙◌, subst}
 use lib.Dec.{eqb}
