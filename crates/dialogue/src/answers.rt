@@ -158,6 +158,7 @@ pub(crate) fn each(text: &mut [u8], said: [Said; 8]) -> usize
 }
 
 // A place, and - for none.
+#[tactic(auto, using(laws::proofs::Branches::branches), unfolding(crate::specs::Answers::owner_of))]
 pub(crate) fn owner(text: &mut [u8], named: bool, place: u8) -> usize
     ensures { Writes text.old 0 (owner_of named place) text.new result }
 {

@@ -53,6 +53,7 @@ const ROOM: u64 = 0x726F6F6D;
 const BUFFER: u64 = 0x627566666572;
 
 // What a line asks for; bytes that it gives are written to the start of bytes.
+#[tactic(auto, using(laws::proofs::Branches::branches, crate::proofs::Handed::handed), unfolding(crate::specs::Calls::call_of, crate::specs::Calls::call_into))]
 pub fn read_call(line: &[u8], bytes: &mut [u8]) -> Call
     ensures value { result ≡ call_of (length bytes.old) line.now }
     ensures bytes_after { bytes.new ≡ call_into bytes.old line.now }
@@ -79,6 +80,7 @@ pub fn read_call(line: &[u8], bytes: &mut [u8]) -> Call
 }
 
 // A call of one word.
+#[tactic(auto, using(laws::proofs::Branches::branches), unfolding(crate::specs::Calls::alone_of))]
 fn alone(name: u64) -> Call
     ensures { result ≡ alone_of name }
 {
@@ -101,6 +103,7 @@ fn alone(name: u64) -> Call
 }
 
 // A call with further words.
+#[tactic(auto, using(laws::proofs::Branches::branches, crate::proofs::Handed::another), unfolding(crate::specs::Calls::followed_of, crate::specs::Calls::followed_into))]
 fn followed(name: u64, words: &[u8], bytes: &mut [u8]) -> Call
     ensures value { result ≡ followed_of (length bytes.old) name words.now }
     ensures bytes_after { bytes.new ≡ followed_into bytes.old name words.now }
@@ -123,6 +126,7 @@ fn followed(name: u64, words: &[u8], bytes: &mut [u8]) -> Call
     Call::Other(name)
 }
 
+#[tactic(auto, using(laws::proofs::Branches::branches), unfolding(crate::specs::Calls::time_of))]
 fn time(words: &[u8]) -> Call
     ensures { result ≡ time_of (only_number words.now) }
 {
@@ -133,6 +137,7 @@ fn time(words: &[u8]) -> Call
     }
 }
 
+#[tactic(auto, using(laws::proofs::Branches::branches), unfolding(crate::specs::Calls::room_of))]
 fn room(words: &[u8]) -> Call
     ensures { result ≡ room_of (only_number words.now) }
 {
@@ -157,6 +162,7 @@ fn frame(words: &[u8], bytes: &mut [u8]) -> Call
     framed(id, count)
 }
 
+#[tactic(auto, using(laws::proofs::Branches::branches), unfolding(crate::specs::Calls::frame_of))]
 fn framed(id: Number, bytes: Bytes) -> Call
     ensures { result ≡ frame_of id bytes }
 {
@@ -177,6 +183,7 @@ fn with_id(id: u16, bytes: Bytes) -> Call
     }
 }
 
+#[tactic(auto, using(laws::proofs::Branches::branches), unfolding(crate::specs::Calls::due_of))]
 fn due(words: &[u8], bytes: &mut [u8]) -> Call
     ensures value { result ≡ due_of (octets_read (length bytes.old) words.now) }
     ensures bytes_after { bytes.new ≡ octets_into bytes.old words.now }
@@ -188,6 +195,7 @@ fn due(words: &[u8], bytes: &mut [u8]) -> Call
     }
 }
 
+#[tactic(auto, using(laws::proofs::Branches::branches), unfolding(crate::specs::Calls::send_of))]
 fn send(words: &[u8], bytes: &mut [u8]) -> Call
     ensures value { result ≡ send_of (octets_read (length bytes.old) words.now) }
     ensures bytes_after { bytes.new ≡ octets_into bytes.old words.now }

@@ -2,6 +2,7 @@
 ghost use Rattle.std.specs.Prelude.{◌≡◌};
 ghost use Rattle.dialogue.specs.Lines.{without_return, LineRead};
 
+use std::io;
 use text::writing;
 
 // A line that was read: how many characters it has, and whether the input ended with it.
@@ -20,14 +21,15 @@ enum Read {
 
 // Reads a line, character by character, so that nothing behind it is waited for. Its end is not kept, and what there is no
 // room for is not either.
-pub fn read_line(line: &mut [u8]) -> Line
+pub fn read_line<R: Input>(rt: &R, line: &mut [u8]) -> Line
     ensures { LineRead line.old line.new result }
 {
+    let mut input = rt.reader();
     let mut fill = 0;
     let mut turns = u64::MAX;
     while 0 < turns {
         turns -= 1;
-        let Read::Character(b) = read_character() else {
+        let Read::Character(b) = read_character(&mut input) else {
             return Line { fill, ended: true };
         };
         if b == b'\n' {
@@ -58,11 +60,11 @@ fn without_return(line: &[u8], fill: usize) -> usize
     fill
 }
 
-fn read_character() -> Read {
+// A character that cannot be read ends the input.
+fn read_character<I: io::Read>(input: &mut I) -> Read {
     let mut one = [0u8; 1];
-    let n = io::count(libc::read(0, &mut one), &one);
-    if n == 0 {
-        return Read::End;
+    match input.read(&mut one) {
+        Ok(1) => Read::Character(one[0]),
+        _ => Read::End,
     }
-    Read::Character(one[0])
 }

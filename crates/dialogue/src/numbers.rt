@@ -47,6 +47,7 @@ impl Numbers {
     }
 
     // The next word is read, for a setting that holds numbers up to most.
+    #[tactic(auto, unfolding(crate::specs::Numbers::next_number, crate::specs::Words::word_at))]
     pub fn next(self, words: &[u8], most: u64) -> Numbers
         ensures { result ≡ next_number self words.now most }
     {
@@ -57,6 +58,7 @@ impl Numbers {
     }
 
     // A word was read, up to a place.
+    #[tactic(auto, using(laws::proofs::Branches::branches), unfolding(crate::specs::Numbers::with_number))]
     fn with(self, at: usize, most: u64, number: Number) -> Numbers
         ensures { result ≡ with_number self at most number }
     {
@@ -147,6 +149,7 @@ pub fn read_opening(words: &[u8]) -> Opening
 }
 
 // The same with other defaults.
+#[tactic(auto, using(laws::proofs::Branches::branches), unfolding(crate::specs::Numbers::opening_with))]
 pub(crate) fn opening_with(defaults: Settings, words: &[u8]) -> Opening
     ensures { result ≡ opening_with defaults words.now }
 {

@@ -19,6 +19,7 @@ pub struct Asked {
 const LARGEST: u64 = 255;
 
 // What a line asks a table for; bytes that it gives are written to the start of bytes.
+#[tactic(auto, unfolding(crate::specs::Places::asked_of, crate::specs::Places::asked_into))]
 pub fn read_asked(line: &[u8], bytes: &mut [u8]) -> Asked
     ensures value { result ≡ asked_of (length bytes.old) line.now }
     ensures bytes_after { bytes.new ≡ asked_into bytes.old line.now }
@@ -29,6 +30,7 @@ pub fn read_asked(line: &[u8], bytes: &mut [u8]) -> Asked
 }
 
 // The number in front of a call; a line that is too long for a call has none.
+#[tactic(auto, using(laws::proofs::Branches::branches), unfolding(crate::specs::Places::place_read))]
 fn place(line: &[u8]) -> Number
     ensures { result ≡ place_read line.now }
 {
@@ -39,6 +41,7 @@ fn place(line: &[u8]) -> Number
 }
 
 // What stands behind that number, and the line itself where there is none.
+#[tactic(auto, unfolding(crate::specs::Places::behind_place))]
 fn behind_place(line: &[u8], place: Number) -> &[u8]
     ensures { result.now ≡ behind_place place line.now }
 {
@@ -50,6 +53,7 @@ fn behind_place(line: &[u8], place: Number) -> &[u8]
 }
 
 // A call behind a number.
+#[tactic(auto, using(laws::proofs::Branches::branches), unfolding(crate::specs::Places::asked_with))]
 fn asked_with(place: Number, call: Call) -> Asked
     ensures { result ≡ asked_with place call }
 {
@@ -80,6 +84,7 @@ fn asking(named: bool, place: u8, call: Call) -> Asked
 }
 
 // Whether a call may stand behind a place, or with none.
+#[tactic(auto, unfolding(crate::specs::Places::suits))]
 fn suits(named: bool, call: Call) -> bool
     ensures { result ≡ suits named call }
 {

@@ -36,6 +36,7 @@ const HIGH: u64 = 0x68696768;
 const LOW: u64 = 0x6C6F77;
 
 // The row that the first word names, and the settings that those behind it give: the row's defaults where there are none.
+#[tactic(auto, unfolding(crate::specs::Rows::opening16_of, crate::specs::Rows::opening_in))]
 pub fn read_opening_16(words: &[u8]) -> Opening16
     ensures { result ≡ opening16_of words.now }
 {
@@ -45,6 +46,7 @@ pub fn read_opening_16(words: &[u8]) -> Opening16
     }
 }
 
+#[tactic(auto, using(laws::proofs::Branches::branches), unfolding(crate::specs::Rows::row_of))]
 fn row_of(name: u64) -> Row
     ensures { result ≡ row_of name }
 {
@@ -64,6 +66,7 @@ fn row_of(name: u64) -> Row
 }
 
 // The settings of an opening in a row.
+#[tactic(auto, unfolding(crate::specs::Rows::opening_as))]
 fn opening_as(profile: Profile, words: &[u8]) -> Opening16
     ensures { result ≡ opening_as profile (opening_with (defaults16 profile) words.now) }
 {

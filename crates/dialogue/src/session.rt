@@ -40,12 +40,13 @@ impl Session {
     pub fn next_line(mut self, ended: bool) -> Session
         ensures { result ≡ next_line self ended }
     {
-        self.lines = std::num::wrapping_add_u64(self.lines, 1);
+        self.lines = self.lines.wrapping_add(1);
         self.ended = ended;
         self
     }
 
     // Of so many turns, none is left when the input has ended or the output takes no more.
+    #[tactic(auto, using(laws::proofs::Branches::branches), unfolding(crate::specs::Session::turns_left))]
     pub fn turns_left(self, turns: u64) -> u64
         ensures { result ≡ turns_left self turns }
     {
@@ -68,82 +69,100 @@ impl Session {
     }
 
     // Answers the call that begins anew.
-    pub fn renew(mut self) -> Session
+    pub fn renew<R: Print + Eprint>(mut self, rt: &R) -> Session
         ensures { Says (renewed self) zero_line result }
     {
         self.room = 1024;
         self.length = 0;
-        self.grant()
+        self.grant(rt)
     }
 
     // Answers the call that lends so many bytes of the buffer.
-    pub fn lend(mut self, room: usize) -> Session
+    pub fn lend<R: Print + Eprint>(mut self, rt: &R, room: usize) -> Session
         ensures { Says (lending self room) zero_line result }
     {
         self.room = room;
-        self.grant()
+        self.grant(rt)
     }
 
     // Answers a call that no record is asked for.
-    pub fn grant(self) -> Session
+    pub fn grant<R: Print + Eprint>(self, rt: &R) -> Session
         ensures { Says self zero_line result }
     {
-        self.say(b"0\n")
+        self.say(rt, b"0\n")
     }
 
     // Answers a call of the record, the bytes of a message being lent.
-    pub fn tell(self, carried: Carried, message: &[u8], text: &mut [u8]) -> Session
+    pub fn tell<R: Print + Eprint>(
+        self,
+        rt: &R,
+        carried: Carried,
+        message: &[u8],
+        text: &mut [u8],
+    ) -> Session
         ensures { Answers self (answer_of carried message.now) text.old text.new result }
     {
         let end = answers::answer(text, carried, message);
-        self.say(shown(text, end))
+        self.say(rt, shown(text, end))
     }
 
     // Answers a call of a table, with the place that it came to.
-    pub fn tell_at(self, carried: Carried, place: u8, text: &mut [u8]) -> Session
+    pub fn tell_at<R: Print + Eprint>(
+        self,
+        rt: &R,
+        carried: Carried,
+        place: u8,
+        text: &mut [u8],
+    ) -> Session
         ensures { Answers self (answer_at carried place) text.old text.new result }
     {
         let end = answers::answer_at(text, carried, place);
-        self.say(shown(text, end))
+        self.say(rt, shown(text, end))
     }
 
     // Answers a call of every place of a table.
-    pub fn tell_each(self, said: [Said; 8], text: &mut [u8]) -> Session
+    pub fn tell_each<R: Print + Eprint>(self, rt: &R, said: [Said; 8], text: &mut [u8]) -> Session
         ensures { Answers self (each_of said) text.old text.new result }
     {
         let end = answers::each(text, said);
-        self.say(shown(text, end))
+        self.say(rt, shown(text, end))
     }
 
     // Answers the call that asks for an ID's owner.
-    pub fn tell_owner(self, named: bool, place: u8, text: &mut [u8]) -> Session
+    pub fn tell_owner<R: Print + Eprint>(
+        self,
+        rt: &R,
+        named: bool,
+        place: u8,
+        text: &mut [u8],
+    ) -> Session
         ensures { Answers self (owner_of named place) text.old text.new result }
     {
         let end = answers::owner(text, named, place);
-        self.say(shown(text, end))
+        self.say(rt, shown(text, end))
     }
 
     // Answers the call that shows bytes.
-    pub fn show(self, bytes: &[u8], text: &mut [u8]) -> Session
+    pub fn show<R: Print + Eprint>(self, rt: &R, bytes: &[u8], text: &mut [u8]) -> Session
         ensures { Answers self (contents_of bytes.now) text.old text.new result }
     {
         let end = answers::contents(text, bytes);
-        self.say(shown(text, end))
+        self.say(rt, shown(text, end))
     }
 
     // Answers a line that is no call.
-    pub fn wrong(self, text: &mut [u8]) -> Session
+    pub fn wrong<R: Print + Eprint>(self, rt: &R, text: &mut [u8]) -> Session
         ensures { Answers self (error_of self.lines) text.old text.new result }
     {
         let end = answers::error(text, self.lines);
-        self.say(shown(text, end))
+        self.say(rt, shown(text, end))
     }
 
-    fn say(mut self, text: &[u8]) -> Session
+    fn say<R: Print + Eprint>(mut self, rt: &R, text: &[u8]) -> Session
         ensures { Says self text.now result }
     {
         let output = self.output;
-        let next = output.say(text);
+        let next = output.say(rt, text);
         self.output = next;
         self
     }

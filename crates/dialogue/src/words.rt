@@ -6,6 +6,7 @@ use text::reading;
 use text::reading::{Bytes, Number};
 
 // The first word.
+#[tactic(auto, unfolding(crate::specs::Words::word_at))]
 pub(crate) fn word(s: &[u8]) -> &[u8]
     ensures { result.now ≡ word_at s.now 0 }
 {
@@ -45,6 +46,7 @@ fn wide(b: u8) -> u64
 }
 
 // The only word, and an empty one where there are more.
+#[tactic(auto, using(laws::proofs::Branches::branches, crate::proofs::Handed::lengths), unfolding(crate::specs::Words::only_word))]
 fn only_word(words: &[u8]) -> &[u8]
     ensures { result.now ≡ only_word words.now }
 {
@@ -56,6 +58,7 @@ fn only_word(words: &[u8]) -> &[u8]
 }
 
 // A decimal number that is the only word.
+#[tactic(auto, unfolding(crate::specs::Words::only_number))]
 pub(crate) fn only_number(words: &[u8]) -> Number
     ensures { result ≡ only_number words.now }
 {
@@ -63,6 +66,7 @@ pub(crate) fn only_number(words: &[u8]) -> Number
 }
 
 // A CAN ID of one to four digits.
+#[tactic(auto, using(laws::proofs::Branches::branches), unfolding(crate::specs::Words::id_read))]
 pub(crate) fn can_id(word: &[u8]) -> Number
     ensures { result ≡ id_read word.now }
 {
@@ -73,6 +77,7 @@ pub(crate) fn can_id(word: &[u8]) -> Number
 }
 
 // A CAN ID that is the only word.
+#[tactic(auto, unfolding(crate::specs::Words::only_id))]
 pub fn only_id(words: &[u8]) -> Number
     ensures { result ≡ only_id words.now }
 {
@@ -80,6 +85,7 @@ pub fn only_id(words: &[u8]) -> Number
 }
 
 // The bytes that some words give, a lone - being none, written to the start of bytes; the answer is how many.
+#[tactic(auto, using(laws::proofs::Branches::branches), unfolding(crate::specs::Words::octets_read, crate::specs::Words::octets_into))]
 pub(crate) fn octets(words: &[u8], bytes: &mut [u8]) -> Bytes
     ensures value { result ≡ octets_read (length bytes.old) words.now }
     ensures bytes_after { bytes.new ≡ octets_into bytes.old words.now }
@@ -94,6 +100,7 @@ pub(crate) fn octets(words: &[u8], bytes: &mut [u8]) -> Bytes
 }
 
 // A - gives no bytes if it stands alone.
+#[tactic(auto, using(laws::proofs::Branches::branches, crate::proofs::Handed::lengths), unfolding(crate::specs::Words::dash_read))]
 fn no_octets(words: &[u8]) -> Bytes
     ensures { result ≡ dash_read words.now }
 {

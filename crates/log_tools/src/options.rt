@@ -90,6 +90,7 @@ impl Options {
     }
 
     // The word at a place, from 1, behind those taken.
+    #[tactic(auto, using(laws::proofs::Branches::branches), unfolding(crate::specs::Options::word_taken))]
     pub fn take_word(self, place: usize, word: &[u8]) -> Options
         ensures { result ≡ word_taken self place word.now }
     {
@@ -115,6 +116,7 @@ impl Options {
     }
 
     // The same of a word whose characters, so many, a buffer holds. One that fills the buffer may be longer: it is no number.
+    #[tactic(auto, using(laws::proofs::Branches::branches), unfolding(crate::specs::Options::held_taken))]
     pub fn take_held(self, place: usize, buffer: &[u8], n: usize) -> Options
         ensures { result ≡ held_taken self place buffer.now n }
     {
@@ -125,6 +127,7 @@ impl Options {
     }
 
     // No word is left.
+    #[tactic(auto, using(laws::proofs::Branches::branches), unfolding(crate::specs::Options::words_ended))]
     pub fn end(self) -> Options
         ensures { result ≡ words_ended self }
     {
@@ -202,6 +205,7 @@ impl Options {
         self
     }
 
+    #[tactic(auto, using(laws::proofs::Branches::branches), unfolding(crate::specs::Options::on_room))]
     fn on_room(self, place: usize, number: Number) -> Options
         ensures { result ≡ on_room self place number }
     {
@@ -217,6 +221,7 @@ impl Options {
         }
     }
 
+    #[tactic(auto, using(laws::proofs::Branches::branches), unfolding(crate::specs::Options::on_chunk))]
     fn on_chunk(self, place: usize, number: Number) -> Options
         ensures { result ≡ on_chunk self place number }
     {
@@ -232,6 +237,7 @@ impl Options {
         }
     }
 
+    #[tactic(auto, using(laws::proofs::Branches::branches), unfolding(crate::specs::Options::on_places))]
     fn on_places(self, place: usize, number: Number) -> Options
         ensures { result ≡ on_places self place number }
     {
@@ -247,6 +253,7 @@ impl Options {
         }
     }
 
+    #[tactic(auto, using(laws::proofs::Branches::branches), unfolding(crate::specs::Options::on_option))]
     fn on_option(self, place: usize, word: &[u8]) -> Options
         ensures { result ≡ on_option self place word.now }
     {

@@ -13,28 +13,31 @@
 //     z  the same of 1,024 zeros
 #![tactic(auto)]
 
+ghost use Rattle.std.specs.Prelude.{◌≤◌, length};
+
 use opening::{Reply, Request};
 use telegram::cutting::Message;
 use telegram::kinds::{Parameters, Sorted, Telegram};
 use telegram::payload::Payload;
 use telegram::{cutting, kinds, time};
+use text::input::read_full;
 use text::output::Output;
 use text::reading::Bytes;
 use text::{reading, writing};
 
-fn main() {
-    let mut text = io::large_buffer();
-    let n = io::read_full(0, &mut text);
-    lines(&text[..n]);
+fn main(rt: HostRuntime) {
+    let mut text = [0u8; 65536];
+    let n = read_full(&rt, &mut text);
+    lines(&rt, &text[..n]);
 }
 
 // Answers line by line, until one cannot be written.
-fn lines(text: &[u8]) {
+fn lines<R: Print + Eprint>(rt: &R, text: &[u8]) {
     let mut output = Output::fresh();
     let mut at = 0;
     while at < text.len() {
-        let end = bytes::scan::find(text, at, text.len(), b'\n');
-        output = line(output, &text[at..end]);
+        let end = find(text, at, b'\n');
+        output = line(rt, output, &text[at..end]);
         if output.failed {
             return;
         }
@@ -42,8 +45,24 @@ fn lines(text: &[u8]) {
     }
 }
 
-fn line(output: Output, text: &[u8]) -> Output {
-    let colon = bytes::scan::find(text, 0, text.len(), b':');
+// Where a character stands first from a place on, or the text's end.
+fn find(text: &[u8], from: usize, c: u8) -> usize
+    requires { from ≤ length text.now }
+    ensures from { from ≤ result }
+    ensures within { result ≤ length text.now }
+{
+    let mut i = from;
+    while i < text.len() {
+        if text[i] == c {
+            return i;
+        }
+        i += 1;
+    }
+    i
+}
+
+fn line<R: Print + Eprint>(rt: &R, output: Output, text: &[u8]) -> Output {
+    let colon = find(text, 0, b':');
     if colon < 2 {
         return output;
     }
@@ -55,7 +74,7 @@ fn line(output: Output, text: &[u8]) -> Output {
     let at = writing::bytes(&mut found, 0, &text[2..rest]);
     let at = run(&mut found, at, text[0], &text[rest..]);
     let end = writing::byte(&mut found, at, b'\n');
-    output.say(reading::part(&found, 0, end))
+    output.say(rt, reading::part(&found, 0, end))
 }
 
 // Runs a value of pairs of digits.

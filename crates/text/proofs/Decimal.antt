@@ -1,28 +1,49 @@
--- The digits that `io` makes of a number are the number in decimal digits.
-use Prim.Native.Nat.{ℕ, zero, suc, ◌+◌, ◌-◌, ◌*◌, ◌/◌, ◌%◌, ◌^◌, ◌≤◌, ◌<◌}
-use native.Mathlib.Nat.{div-lt_iff_lt-mul, le-div_iff_mul-le, mod-lt, pow-suc, pow-le-pow_right, not-suc-le-zero}
+-- How many digits a number has, and that its last digits, so many of them, are the number in decimal digits.
+--     div-pow-one, div-pow-div                        what is left of a number after one digit, and after one more
+--     pow-le_of_div_pos, lt-pow_of_div-zero           something is left of it after k digits, or nothing
+use Prim.Native.Nat.{ℕ, zero, suc, ◌+◌, ◌-◌, ◌*◌, ◌/◌, ◌^◌, ◌≤◌, ◌<◌}
+use native.Mathlib.Nat.{div-lt_iff_lt-mul, le-div_iff_mul-le, div-div-eq-div-mul, pow-suc, one-le-pow, pow-le-pow_right, not-suc-le-zero}
+use native.Mathlib.Numerals.{add-one}
 use native.Mathlib.Omega.{arith}
-use mathlib.Core.List.{List, [], ◌∷◌, ◌++◌}
-use mathlib.Core.Path.{◌≡◌, ◌∙◌}
-use lib.ListN.{take}
+use mathlib.Core.List.{List}
+use mathlib.Core.Path.{◌≡◌, refl, sym, ap, ◌∙◌}
+use lib.ListN.{length, take}
+use lib.Seq.{length-take-le}
 use lib.Dec.{leb}
 use borrow.Author.Tests.{lt-ltb, le-ltb, leb-true, leb-false}
 use Rattle.laws.proofs.Cases.{either}
-use Rattle.io.specs.Digits.{hex_digit_ascii, last_digits, IsDigitCount}
+use Rattle.text.specs.Digits.{IsDigitCount, IsPrefixLen, last_digits}
 use Rattle.text.specs.Written.{decimal_below, decimal_of}
 
-digit : (n : ℕ) → hex_digit_ascii (n % 10) ≡ 48 + n % 10
-digit n = let h : n % 10 < 10 = mod-lt n {m = 10} (omega arith) in rw (lt-ltb (n % 10) 10 h)
+pub prefix_len : (n : ℕ) (xs : List ℕ) → n ≤ length xs → IsPrefixLen n xs
+prefix_len n xs h = (h, sym (length-take-le n xs h))
+
+pub div-pow-one : (n : ℕ) → n / 10 ≡ n / 10 ^ 1
+div-pow-one n = refl
+
+pub div-pow-div : (n k : ℕ) → n / 10 ^ k / 10 ≡ n / 10 ^ (k + 1)
+div-pow-div n k = div-div-eq-div-mul n (10 ^ k) 10 ∙ ap (λ (d : ℕ). n / d) (sym (pow-suc 10 k) ∙ ap (λ (j : ℕ). 10 ^ j) (sym (add-one k)))
+
+pub pow-le_of_div_pos : (n k : ℕ) → 0 < n / 10 ^ k → 10 ^ (k + 1 - 1) ≤ n
+pow-le_of_div_pos n k some =
+    let e : k + 1 - 1 ≡ k = omega arith in
+    let p : 1 * 10 ^ k ≤ n = (le-div_iff_mul-le (one-le-pow k 10 (omega arith))).0 some in
+    rw e (omega arith)
+
+pub lt-pow_of_div-zero : (n k : ℕ) → n / 10 ^ k < 1 → n < 10 ^ k
+lt-pow_of_div-zero n k none =
+    let p : n < 1 * 10 ^ k = (div-lt_iff_lt-mul (one-le-pow k 10 (omega arith))).0 none in
+    omega arith
 
 positive : (j : ℕ) → 1 ≤ 10 ^ j
 positive zero = omega arith
 positive (suc j) = let h : 1 ≤ 10 ^ j = positive j in rw (pow-suc 10 j) (omega arith)
 
-pub digits_are : (more k n : ℕ) → IsDigitCount 10 1 n k → k ≤ suc more → last_digits 10 k n ≡ decimal_below more n
+pub digits_are : (more k n : ℕ) → IsDigitCount n k → k ≤ suc more → last_digits k n ≡ decimal_below more n
 unfolding decimal_below
 digits_are more zero n f h = absurd (not-suc-le-zero f.0)
-digits_are zero (suc zero) n f h = rw (digit n)
-digits_are (suc more) (suc zero) n f h = let t : n < 10 = f.1 in rw (digit n, lt-ltb n 10 t)
+digits_are zero (suc zero) n f h = refl
+digits_are (suc more) (suc zero) n f h = let t : n < 10 = f.1 in rw (lt-ltb n 10 t)
 digits_are zero (suc (suc j)) n f h = absurd (omega arith)
 digits_are (suc more) (suc (suc j)) n f h =
     let one : 1 ≤ 10 ^ j = positive j in
@@ -34,9 +55,9 @@ digits_are (suc more) (suc (suc j)) n f h =
     let below : n / 10 < 10 ^ suc j = (div-lt_iff_lt-mul {k = 10} (omega arith)).1 (omega (arith, f.1)) in
     let l : suc j - 1 ≡ j = omega arith in
     let rest : 1 < suc j → 10 ^ (suc j - 1) ≤ n / 10 = λ _. rw l ((le-div_iff_mul-le {k = 10} (omega arith)).1 (omega arith)) in
-    rw (digit n, le-ltb n 10 t, digits_are more (suc j) (n / 10) (omega arith, below, rest) (omega arith))
+    rw (le-ltb n 10 t, digits_are more (suc j) (n / 10) (omega arith, below, rest) (omega arith))
 
-at-most-twenty : (n k : ℕ) → IsDigitCount 10 1 n k → n < 2 ^ 64 → k ≤ 20
+pub at-most-twenty : (n k : ℕ) → IsDigitCount n k → n < 2 ^ 64 → k ≤ 20
 at-most-twenty n k f h =
     either (leb k 20) (λ e. leb-true k 20 e) (λ e.
     let t : 20 < k = leb-false k 20 e in
@@ -44,5 +65,5 @@ at-most-twenty n k f h =
     let q : 10 ^ (k - 1) ≤ n = f.2 (omega arith) in
     absurd (omega arith))
 
-pub decimal-is : (n k : ℕ) (out : List ℕ) → IsDigitCount 10 1 n k → n < 2 ^ 64 → take k out ≡ last_digits 10 k n → take k out ≡ decimal_of n
+pub decimal-is : (n k : ℕ) (out : List ℕ) → IsDigitCount n k → n < 2 ^ 64 → take k out ≡ last_digits k n → take k out ≡ decimal_of n
 decimal-is n k out f h e = e ∙ digits_are 19 k n f (at-most-twenty n k f h)

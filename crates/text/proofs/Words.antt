@@ -1,6 +1,6 @@
 -- A run of blanks or of other characters, from a place on, character by character.
 --     goes_on, breaks, is-over     the next character belongs to it, does not, or there is none
-use Prim.Native.Nat.{ℕ, suc, ◌+◌, ◌≤◌, ◌<◌}
+use Prim.Native.Nat.{ℕ, ◌+◌, ◌≤◌, ◌<◌}
 use native.Mathlib.Numerals.{add-one}
 use native.Mathlib.Omega.{arith}
 use mathlib.Core.Bool.{Bool, true, false}

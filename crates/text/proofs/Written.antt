@@ -3,16 +3,15 @@
 --     joined, joined3, joined4     texts behind each other, by another name
 --     more                 one element more of a list that is written piece by piece
 --     worded, worded-one   a text or a character, by another name
-use Prim.Native.Nat.{ℕ, zero, suc, ◌+◌, ◌-◌, ◌*◌, ◌/◌, ◌%◌, ◌^◌, ◌≤◌, ◌<◌, min}
+use Prim.Native.Nat.{ℕ, suc, ◌+◌, ◌≤◌, ◌<◌}
 use native.Mathlib.Numerals.{add-one}
 use native.Mathlib.Omega.{arith}
-use mathlib.Core.Bool.{true, false}
-use mathlib.Core.List.{List, [], ◌∷◌, ◌++◌, append-nil}
+use mathlib.Core.List.{List, [], ◌∷◌, ◌++◌}
 use mathlib.Core.Path.{◌≡◌, refl, sym, ap, ◌∙◌}
-use lib.Dec.{leb, ltb}
-use lib.ListN.{length, take, set, get_or, length-append, length-set}
+use lib.Dec.{leb}
+use lib.ListN.{length, take, set, get_or, length-append}
 use lib.Seq.{sets, length-sets, set_out, take-suc, take_all}
-use borrow.Author.Tests.{leb-true, leb-false, ltb-true, ltb-false, lt-ltb, le-ltb}
+use borrow.Author.Tests.{leb-true, leb-false}
 use Rattle.laws.proofs.Cases.{either}
 use Rattle.text.specs.Written.{Writes, pair_of, pairs_of}
 

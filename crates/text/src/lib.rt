@@ -4,6 +4,7 @@
 // characters into a lent slice from a place on, as far as there is room, and answers the next place.
 #![tactic(auto)]
 
+pub mod input;
 pub mod output;
 pub mod reading;
 pub mod writing;

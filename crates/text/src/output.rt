@@ -16,7 +16,7 @@ impl Output {
     }
 
     // Writes a text, whole. The first that cannot be written is reported on standard error, and nothing is written after it.
-    pub fn say(self, text: &[u8]) -> Output
+    pub fn say<R: Print + Eprint>(self, rt: &R, text: &[u8]) -> Output
         ensures { Said self text.now result }
     {
         if self.failed {
@@ -25,10 +25,10 @@ impl Output {
         if text.len() == 0 {
             return self;
         }
-        if io::write_all(1, text) {
+        if rt.write_all(text).is_ok() {
             return self;
         }
-        io::write_all(2, b"cannot write to standard output\n");
+        let _ = rt.eprint("cannot write to standard output\n");
         Output { failed: true }
     }
 }

@@ -31,6 +31,7 @@ pub struct Span {
 }
 
 // What a digit stands for, a hexadecimal one of either case, and 16 for any other character.
+#[tactic(auto, using(laws::proofs::Branches::branches), unfolding(crate::specs::Numbers::digit_of))]
 pub fn digit(c: u8) -> u8
     ensures { result ≡ digit_of c }
 {

@@ -1,6 +1,6 @@
 // Characters, bytes and numbers into a lent text.
-ghost use Rattle.std.specs.Prelude.{◌+◌, ◌/◌, ◌%◌, ◌≤◌, [], ◌∷◌, ◌≡◌, take};
-ghost use Rattle.io.specs.Counts.{IsPrefixLen};
+ghost use Rattle.std.specs.Prelude.{◌+◌, ◌/◌, ◌%◌, ◌≤◌, [], ◌∷◌, ◌≡◌, length, take};
+ghost use Rattle.text.specs.Digits.{IsDigitCount, IsPrefixLen, last_digits};
 ghost use Rattle.text.specs.Written.{Writes, if_given, glyph, pair_of, pairs_of, id_of, flags_of, decimal_of};
 
 // One character.
@@ -104,7 +104,36 @@ fn digits_of(n: u64, digits: &mut [u8; 20]) -> usize
     ensures prefix_len { IsPrefixLen result digits.new }
     ensures digits_after { take result digits.new ≡ decimal_of n }
 {
-    io::decimal(n, digits)
+    let k = digit_count(n);
+    put_digits(n, k, digits);
+    k
+}
+
+// How many digits a number has.
+fn digit_count(n: u64) -> usize
+    ensures { IsDigitCount n result }
+{
+    let mut k = 1;
+    let mut rest = n / 10;
+    while rest > 0 {
+        rest /= 10;
+        k += 1;
+    }
+    k
+}
+
+// A number's last k digits to the start of lent ones.
+fn put_digits(n: u64, k: usize, digits: &mut [u8])
+    requires { k ≤ length digits.old }
+    ensures { take k digits.new ≡ last_digits k n }
+{
+    let mut i = k;
+    let mut rest = n;
+    while i > 0 {
+        i -= 1;
+        digits[i] = b'0' + (rest % 10) as u8;
+        rest /= 10;
+    }
 }
 
 fn glyph(d: u8) -> u8

@@ -1,0 +1,6 @@
+-- A character more.
+use Rattle.dialogue.proofs.LineEnds.{goes_on}
+use Rattle.dialogue.proofs.lines.read_line.Goals as goal
+
+pub loop-turns-preserved : goal.loop-turns-preserved
+loop-turns-preserved g c = goes_on _ _ _ _ _ _ c.loop-turns.invariant c.byte-fill.ensures c.if-b-eq10.false

@@ -1,0 +1,8 @@
+-- One piece behind the other.
+use Rattle.text.proofs.Written.{joined4}
+use Rattle.log_tools.specs.Complaints.{refusal_line}
+use Rattle.log_tools.proofs.complaints.refusal_line.Goals as goal
+
+pub returns : goal.returns
+unfolding refusal_line
+returns c = search joined4
