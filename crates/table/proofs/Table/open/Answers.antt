@@ -62,4 +62,4 @@ named-requires c = search rules
 
 pub returns : goal.returns
 unfolding opens
-returns c = rw (c.named.ensures, ← c.free-p.ensures, lt-leb 8 _ c.if-p-ge-PLACES.false, sym c.reserved.ensures ∙ c.if-reserved.false, sym c.is_used.ensures ∙ c.if-is_used.false, ← c.in_range.ensures, c.if-not-in_range.false, c.before.«open».ensures)
+returns c = rw (c.named.ensures, ← c.free-p.ensures, lt-leb 8 _ c.if-p-ge-PLACES.false, sym c.reserved.ensures ∙ c.if-reserved.false, sym c.is_used.ensures ∙ c.if-is_used.false, ← c.in_range.ensures, c.if-not-in_range.false, c.open-r.ensures)
