@@ -260,7 +260,7 @@ class Exchange:
 # The programs
 
 ROOT = os.path.dirname(os.path.dirname(os.path.abspath(__file__)))
-CONSOLE, UNIT_CONSOLE, TABLE_CONSOLE = (os.path.join("target", "bin", name)
+CONSOLE, UNIT_CONSOLE, TABLE_CONSOLE = (os.path.join("crates", name, "out", name)
                                         for name in ("console", "unit_console", "table_console"))
 PROGRAMS = CONSOLE, UNIT_CONSOLE
 
