@@ -26,7 +26,7 @@ use Rattle.delivery.specs.System.{Try, ShownMessage, Fate, handing, losing}
 use Rattle.delivery.specs.System.Fate.{goes, stays, lost}
 use Rattle.delivery.proofs.Core.{DataFrame, AckFrame, Direction, with_frames, with_receiving, with_ack, asked_by, received_to, received, receiving, took_to}
 use Rattle.delivery.proofs.Count.{Spared, not_spared}
-use Rattle.delivery.proofs.ReceivingKeeps.{received-length, unused_by, unused-received}
+use Rattle.delivery.proofs.ReceivingKeeps.{received-length, unused-received}
 use Rattle.delivery.proofs.Tries.{Sends, Row, Leftover, Says, Answers, Due, Ghosts, VacantOf, BlockOf, OverOf, PaceOf, LineOf, OnItsWayOf, AnsweredOf, Stage, stage-as, Tried}
 use Rattle.delivery.proofs.Tries.Row.{frame}
 use Rattle.delivery.proofs.Tries.Leftover.{none, one}

@@ -4,7 +4,6 @@
 --     formless-class .. one-byte   "Refused are badly formed telegrams"
 --     data-class                   data, by what the receiving rules of 01 make of it; "and answer 7" is refused
 use Prim.Native.Nat.{ℕ, ◌+◌, ◌≤◌, ◌<◌}
-use native.Mathlib.Omega.{arith}
 use mathlib.Core.Bool.{Bool}
 use mathlib.Core.List.{List, [], ◌∷◌}
 use mathlib.Core.Logic.{◌≢◌}
@@ -21,7 +20,6 @@ use Rattle.receiver.specs.declared.Receipt.TheVariants.{Used as IsUsed, Complete
 use Rattle.receiver.proofs.Given.{Given, given-note}
 use Rattle.telegram.specs.declared.kinds.Telegram.TheVariants.{Data}
 use Rattle.follow.specs.Following.{receiver_of, fate_of, first_after, on_data, on_open, heard}
-use Rattle.follow.specs.declared.Fate.{Fate}
 use Rattle.follow.specs.declared.Follow.{Follow}
 use Rattle.follow.specs.declared.Heard.{Heard}
 use Rattle.follow.specs.declared.Side.{Side}
