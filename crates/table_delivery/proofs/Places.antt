@@ -4,8 +4,9 @@ use mathlib.Core.Bool.{true, false}
 use mathlib.Core.List.{List, [], ◌∷◌, ◌++◌}
 use mathlib.Core.Logic.{◌≢◌}
 use mathlib.Core.Path.{◌≡◌, refl, sym, ◌∙◌}
-use lib.Dec.{leb}
+use lib.Dec.{leb, eqb}
 use borrow.Author.Tests.{lt-leb, eq-eqb, ne_eqb}
+use Rattle.laws.specs.If.{if◌then◌else◌}
 use Rattle.laws.proofs.Cases.{by-eq}
 use Rattle.channel.specs.declared.Answer.TheVariants.{NotDue}
 use Rattle.connection.specs.declared.Connection.{Connection}
@@ -39,7 +40,7 @@ module _ (limit place : ℕ) where
   unfolding meanwhile
   meanwhile-stays calls [] = refl
   meanwhile-stays calls (c ∷ cs) =
-      meanwhile-stays _ cs
+      meanwhile-stays (if eqb (goes_to (run limit empty calls) c) place then calls else calls ++ (c ∷ [])) cs
       ∙ by-eq (λ (l : List Call). at (run limit empty l) place ≡ at (run limit empty calls) place) (goes_to (run limit empty calls) c) place (λ e. refl) (elsewhere calls c)
 
   -- so a call to this place meets the record as the last one left it

@@ -248,11 +248,11 @@ module _ (limit : ℕ) where
   -- and the answers are the same
   replies-same : (r : Two) (es : List Event) → Kept r → AllFair limit r es → replies limit (λ r. r.one) r es ≡ replies limit (λ r. r.two) r es
   replies-same r [] a f = refl
-  replies-same r (opening s b ∷ es) a f = ap₂ ◌∷◌ (opening-reply r.one r.two f.0 s) (replies-same _ es (kept r (opening s b) a f.0) f.1)
-  replies-same r (begins s b b' ∷ es) a f = ap₂ ◌∷◌ (opening-reply r.one r.two f.0.0 s) (replies-same _ es (kept r (begins s b b') a f.0) f.1)
-  replies-same r (both c ∷ es) a f = ap₂ ◌∷◌ (both_reply a c f.0.0 f.0.1.0 f.0.1.1) (replies-same _ es (kept r (both c) a f.0) f.1)
-  replies-same r (first c ∷ es) a f = replies-same _ es (kept r (first c) a f.0) f.1
-  replies-same r (second c ∷ es) a f = replies-same _ es (kept r (second c) a f.0) f.1
+  replies-same r (opening s b ∷ es) a f = ap₂ ◌∷◌ (opening-reply r.one r.two f.0 s) (replies-same (happens limit r (opening s b)) es (kept r (opening s b) a f.0) f.1)
+  replies-same r (begins s b b' ∷ es) a f = ap₂ ◌∷◌ (opening-reply r.one r.two f.0.0 s) (replies-same (happens limit r (begins s b b')) es (kept r (begins s b b') a f.0) f.1)
+  replies-same r (both c ∷ es) a f = ap₂ ◌∷◌ (both_reply a c f.0.0 f.0.1.0 f.0.1.1) (replies-same (happens limit r (both c)) es (kept r (both c) a f.0) f.1)
+  replies-same r (first c ∷ es) a f = replies-same (happens limit r (first c)) es (kept r (first c) a f.0) f.1
+  replies-same r (second c ∷ es) a f = replies-same (happens limit r (second c)) es (kept r (second c) a f.0) f.1
 
 -- both runs begin alike
 begins-kept : Kept begin

@@ -1,5 +1,5 @@
 -- 02, 7: isolation, sentence by sentence. Two runs from an empty table, side by side. proofs/Isolation.antt proves it.
-use Rattle.std.specs.Prelude.{ℕ, ◌≤◌, ◌<◌, Bool, true, false, ◌≡◌, ◌≢◌, ◌⊎◌, List, [], ◌∷◌, eqb, length, get_or, set, replicate, take as front}
+use Rattle.std.specs.Prelude.{ℕ, ◌≤◌, ◌<◌, Bool, false, ◌≡◌, ◌≢◌, ◌⊎◌, List, [], ◌∷◌, eqb, length, get_or, set, replicate, take as front}
 use Rattle.std.proofs.Math.Option.{Option, none, some}
 use Rattle.laws.specs.If.{if◌then◌else◌}
 use Rattle.settings.specs.declared.Settings.{Settings}
