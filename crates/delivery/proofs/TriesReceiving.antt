@@ -1,4 +1,5 @@
 -- What the moves at the receiving end keep of the tries: a data frame, a message taken, the due Ack handed over.
+use Rattle.std.specs.Prelude.{if◌then◌else◌}
 use Prim.Native.Nat.{ℕ, ◌+◌, min, ◌%◌, ◌≤◌, ◌<◌}
 use native.Mathlib.Nat.{mod-mod, mod-eq_of_lt}
 use native.Mathlib.Omega.{arith}
@@ -9,7 +10,6 @@ use mathlib.Core.Path.{◌≡◌, refl, sym, ap, subst, ◌∙◌}
 use lib.Dec.{eqb}
 use lib.ListN.{length, length-append}
 use borrow.Author.Tests.{eqb-true, eqb-false, eq-eqb, ne_eqb}
-use Rattle.laws.specs.If.{if◌then◌else◌}
 use Rattle.laws.proofs.Cases.{by, either}
 use Rattle.delivery.proofs.Mod16.{same-shown, on-shown}
 use Rattle.sender.specs.declared.Terms.{Terms}

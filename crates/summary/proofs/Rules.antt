@@ -3,6 +3,7 @@
 --     a8-class .. a1-class         "control all others but data": the A8 that ends the channel too
 --     formless-class .. one-byte   "Refused are badly formed telegrams"
 --     data-class                   data, by what the receiving rules of 01 make of it; "and answer 7" is refused
+use Rattle.std.specs.Prelude.{if◌then◌else◌}
 use Prim.Native.Nat.{ℕ, ◌+◌, ◌≤◌, ◌<◌}
 use mathlib.Core.Bool.{Bool}
 use mathlib.Core.List.{List, [], ◌∷◌}
@@ -10,7 +11,6 @@ use mathlib.Core.Logic.{◌≢◌}
 use mathlib.Core.Path.{◌≡◌, refl, ap, ◌∙◌}
 use lib.ListN.{length}
 use borrow.Author.Tests.{eq-eqb, ne_eqb}
-use Rattle.laws.specs.If.{if◌then◌else◌}
 use Rattle.laws.proofs.Cases.{by-lt}
 use Rattle.telegram.specs.Forms.{first_byte, Filled, Formed}
 use Rattle.telegram.specs.declared.kinds.Sorted.{Sorted}
