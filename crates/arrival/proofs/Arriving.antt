@@ -1,4 +1,5 @@
 -- What an arrival leaves: each kind of telegram with its outcomes, and what led to each. The laws go by these cases.
+use Rattle.std.specs.Prelude.{if◌then◌else◌}
 use Prim.Native.Nat.{ℕ}
 use mathlib.Core.Bool.{Bool, true, false}
 use mathlib.Core.List.{List}
@@ -7,7 +8,6 @@ use mathlib.Core.Path.{◌≡◌, refl, ap}
 use lib.Dec.{eqb}
 use lib.ListN.{length}
 use borrow.Author.Tests.{ne_eqb}
-use Rattle.laws.specs.If.{if◌then◌else◌}
 use Rattle.laws.proofs.Cases.{by, by-not}
 use Rattle.telegram.specs.Kinds.{bad_block}
 use Rattle.telegram.specs.declared.kinds.Parameters.{Parameters as Fields}

@@ -1,6 +1,5 @@
 -- 01, "Telegrams on an open connection": what a telegram that arrives does to a channel.
-use Rattle.std.specs.Prelude.{ℕ, true, not, List, length, eqb}
-use Rattle.laws.specs.If.{if◌then◌else◌}
+use Rattle.std.specs.Prelude.{ℕ, true, not, List, length, eqb, if◌then◌else◌}
 use Rattle.telegram.specs.Kinds.{bad_block}
 use Rattle.telegram.specs.declared.kinds.Parameters.{Parameters as Fields}
 use Rattle.telegram.specs.declared.kinds.Telegram.{Telegram}

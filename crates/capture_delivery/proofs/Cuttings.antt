@@ -2,6 +2,7 @@
 --     cuttings-first, cuttings-rest      the frames of the first message, and those of the others behind them
 --     cuttings-numbered                  each is data with the number of its place
 --     whole_in, whole-all, whole-inside   the messages whose frames all are seen
+use Rattle.std.specs.Prelude.{if◌then◌else◌}
 use Prim.Native.Nat.{ℕ, ◌+◌, ◌-◌, ◌%◌, ◌<◌, ◌≤◌}
 use native.Mathlib.Omega.{arith}
 use mathlib.Core.Bool.{Bool}
@@ -11,7 +12,6 @@ use lib.ListN.{length, drop, get_or, length-append, get_or-append}
 use lib.Seq.{drop_at, get_or-drop}
 use lib.Dec.{ltb, leb}
 use borrow.Author.Tests.{le-leb, lt-leb, ltb-true, ltb-false}
-use Rattle.laws.specs.If.{if◌then◌else◌}
 use Rattle.laws.proofs.Cases.{either}
 use Rattle.telegram.specs.Outgoing.{bytes_of}
 use Rattle.telegram.specs.Kinds.{sorted}

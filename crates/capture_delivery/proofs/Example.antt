@@ -1,6 +1,7 @@
 -- Logs that meet all that the claim assumes, so that it is not empty.
 --     example, example-shown     the tester's message of two frames, the first of them twice, among other lines
 --     cut_off, cut-off-shown     the unit's, where the log ends behind the first, without a line end
+use Rattle.std.specs.Prelude.{if◌then◌else◌}
 use Prim.Native.Nat.{ℕ, ◌+◌, ◌/◌, ◌%◌}
 use native.Mathlib.Omega.{arith}
 use mathlib.Core.Bool.{true}
@@ -10,7 +11,6 @@ use mathlib.Core.Path.{◌≡◌, refl, sym, subst}
 use lib.Dec.{ltb}
 use lib.ListN.{replicate}
 use borrow.Author.Tests.{ltb-true}
-use Rattle.laws.specs.If.{if◌then◌else◌}
 use Rattle.text.specs.Numbers.{digit_of}
 use Rattle.candump.specs.Line.{run, time_end, id_place, hexes, id_at, bytes_of, body_of, line_of, data_of}
 use Rattle.candump.specs.Text.{without_return}

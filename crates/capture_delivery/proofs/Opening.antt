@@ -1,5 +1,6 @@
 -- The opening of a channel: each line takes what is awaited, starts over or leaves it; the A1 opens it.
 --     sent-told      a channel that opens and then carries frames of a side shows their messages
+use Rattle.std.specs.Prelude.{if◌then◌else◌}
 use Prim.Native.Nat.{ℕ, ◌+◌}
 use native.Mathlib.Omega.{arith}
 use mathlib.Core.Bool.{Bool}
@@ -9,7 +10,6 @@ use mathlib.Core.Path.{◌≡◌, refl, ap, ◌∙◌, subst}
 use lib.ListN.{length, get_or}
 use lib.Dec.{eqb}
 use borrow.Author.Tests.{eq-eqb, ne_eqb, eqb-true}
-use Rattle.laws.specs.If.{if◌then◌else◌}
 use Rattle.laws.proofs.Cases.{by, by-eq, either}
 use Rattle.telegram.specs.Kinds.{sorted, bad_block}
 use Rattle.telegram.specs.Forms.{Taken, formed, formless, ack, test, break, disconnect, accept, bare, filled, Form, as-data, as-fillable, as-setup, Formed, malformed}

@@ -1,11 +1,11 @@
 -- The reading of a log, told from one side of the channel: what a frame on its own ID, on the other one, or on none of them leaves.
+use Rattle.std.specs.Prelude.{if◌then◌else◌}
 use Prim.Native.Nat.{ℕ, ◌+◌}
 use mathlib.Core.List.{List, [], ◌∷◌}
 use mathlib.Core.Logic.{◌≢◌}
 use mathlib.Core.Path.{◌≡◌, refl, sym}
 use lib.ListN.{length}
 use borrow.Author.Tests.{eq-eqb, ne_eqb}
-use Rattle.laws.specs.If.{if◌then◌else◌}
 use Rattle.follow.specs.declared.Side.{Side}
 use Rattle.follow.specs.declared.Side.TheVariants.{Tester, Unit}
 use Rattle.follow.specs.declared.Reception.{Reception}

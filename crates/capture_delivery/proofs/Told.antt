@@ -1,12 +1,12 @@
 -- What lines show of one side of an open channel, line by line.
 --     own-told, other-told, none_told, over-told     a frame on the side's ID, on the other one, on none of the two, and behind an A8
+use Rattle.std.specs.Prelude.{if◌then◌else◌}
 use Prim.Native.Nat.{ℕ, ◌+◌}
 use mathlib.Core.Bool.{Bool, true, false}
 use mathlib.Core.List.{List, [], ◌∷◌, ◌++◌}
 use mathlib.Core.Logic.{◌≢◌}
 use mathlib.Core.Path.{◌≡◌, refl, ap, ◌∙◌}
 use lib.ListN.{length, drop}
-use Rattle.laws.specs.If.{if◌then◌else◌}
 use Rattle.telegram.specs.Kinds.{sorted}
 use Rattle.telegram.specs.declared.cutting.Message.{Message}
 use Rattle.telegram.specs.declared.kinds.Telegram.{Telegram}

@@ -1,6 +1,5 @@
 -- 01, "Telegrams on an open connection": what a channel does as time passes, when a frame is asked for, and when a message is offered.
-use Rattle.std.specs.Prelude.{ℕ, ◌+◌, ◌-◌, Bool, true, false, not, ◌&&◌, ◌||◌, List, [], ltb, leb, eqb}
-use Rattle.laws.specs.If.{if◌then◌else◌}
+use Rattle.std.specs.Prelude.{ℕ, ◌+◌, ◌-◌, Bool, true, false, not, ◌&&◌, ◌||◌, List, [], ltb, leb, eqb, if◌then◌else◌}
 use Rattle.telegram.specs.Outgoing.{payload_of}
 use Rattle.telegram.specs.Kinds.{ack_of, test_of, accept_of}
 use Rattle.telegram.specs.declared.payload.Payload.{Payload}

@@ -1,13 +1,13 @@
 -- The rules while the A1 is awaited, and of what it opens, in other words: the A0 as bytes, and what is agreed field by field.
+use Rattle.std.specs.Prelude.{if◌then◌else◌}
 use Prim.Native.Nat.{ℕ, ◌*◌, ◌/◌, ◌%◌, ◌<◌, ◌≤◌, min}
 use native.Mathlib.Omega.{arith}
 use mathlib.Core.Bool.{true, false}
 use mathlib.Core.List.{List, [], ◌∷◌}
-use mathlib.Core.Path.{◌≡◌, refl}
+use mathlib.Core.Path.{◌≡◌}
 use borrow.Author.Tests.{eq-eqb, ne_eqb, lt-ltb, le-ltb}
 use Rattle.laws.proofs.Cases.{either}
 use Rattle.telegram.specs.Kinds.{bad_block, kind_of}
-use Rattle.laws.specs.If.{if◌then◌else◌}
 use Rattle.profile.specs.Profile.{sorted_by}
 use Rattle.settings.proofs.Agreement.{unit, tenths-are}
 use Rattle.channel.specs.declared.Answer.TheVariants.{Good, Disconnected, Malformed, BlockSize, NotDue}

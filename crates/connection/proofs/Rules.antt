@@ -1,5 +1,5 @@
 -- The rules of a record in other words: phases as numbers, requests and replies as bytes, and whole records field by field, none through the definitions that they speak of.
-use Prim.Native.Nat.{ℕ, ◌+◌, ◌-◌, ◌*◌, ◌/◌, ◌%◌, ◌<◌, ◌≤◌}
+use Prim.Native.Nat.{ℕ, ◌+◌, ◌*◌, ◌/◌, ◌%◌, ◌<◌, ◌≤◌}
 use native.Mathlib.Omega.{arith}
 use mathlib.Core.Bool.{Bool, true, false, and-false}
 use mathlib.Core.List.{List, [], ◌∷◌}
@@ -18,7 +18,6 @@ use Rattle.settings.specs.Settings.{allowed_by, allowed}
 use Rattle.settings.specs.declared.Settings.{Settings}
 use Rattle.channel.specs.declared.Answer.TheVariants.{Good, Malformed, NotDue}
 use Rattle.open_end.specs.declared.answers.Answer.TheVariants.{OtherId, OutOfRange, Refused}
-use Rattle.open_end.specs.Answers.{said}
 use Rattle.open_end.proofs.Rules.{no_channel, plainly, no_frame}
 use Rattle.connection.specs.declared.Connection.{Connection}
 use Rattle.connection.specs.Record.{closed_record, leaving_on, listens_on, hears}

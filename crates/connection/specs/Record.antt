@@ -1,7 +1,6 @@
 -- 01, "The record and its calls" and "Opening": the record of the side that opens, and what it stands at.
-use Rattle.std.specs.Prelude.{ℕ, Bool, true, false, not, ◌||◌, eqb}
+use Rattle.std.specs.Prelude.{ℕ, Bool, true, false, not, ◌||◌, eqb, if◌then◌else◌}
 use Rattle.std.proofs.Math.Option.{Option, none, some}
-use Rattle.laws.specs.If.{if◌then◌else◌}
 use Rattle.telegram.specs.declared.kinds.Parameters.{Parameters as Fields}
 use Rattle.profile.specs.Profile.{tp20}
 use Rattle.profile.specs.Opening.{reply_id}

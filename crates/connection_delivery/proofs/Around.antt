@@ -1,11 +1,11 @@
 -- A record around an open end is a lawful end: open, its calls are those of that end, and keep what is asked of its channel; closed by 8, it refuses them.
+use Rattle.std.specs.Prelude.{if◌then◌else◌}
 use Prim.Native.Nat.{ℕ, ◌≤◌}
 use mathlib.Core.Bool.{Bool, true, false, not, ◌||◌, false≢true}
 use mathlib.Core.List.{List, []}
 use mathlib.Core.Path.{◌≡◌, refl, subst}
 use lib.Dec.{eqb}
 use lib.ListN.{drop}
-use Rattle.laws.specs.If.{if◌then◌else◌}
 use Rattle.telegram.specs.Outgoing.{bytes_of}
 use Rattle.telegram.specs.Cutting.{none}
 use Rattle.telegram.specs.Kinds.{sorted}

@@ -1,5 +1,5 @@
 -- Demand 3 and request 14 speak of something for two connection records: settings that their profiles allow open two fresh ones.
-use Prim.Native.Nat.{ℕ, ◌+◌, min, ◌≤◌, ◌<◌, ◌%◌, ◌/◌}
+use Prim.Native.Nat.{ℕ, min, ◌≤◌, ◌<◌, ◌%◌, ◌/◌}
 use native.Mathlib.Nat.{one-le-mul, one-le-pow}
 use native.Mathlib.Omega.{arith}
 use mathlib.Core.Bool.{Bool, true, false}

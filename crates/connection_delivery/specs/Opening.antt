@@ -1,6 +1,5 @@
 -- 01, "Opening": how a record comes to be fresh, by the very definitions of its calls. What the peer sends comes as bytes.
-use Rattle.std.specs.Prelude.{ℕ, Bool, true, false, List, [], ◌∷◌, ◌++◌, length, ◌≡◌}
-use Rattle.laws.specs.If.{if◌then◌else◌}
+use Rattle.std.specs.Prelude.{ℕ, Bool, true, false, List, [], ◌∷◌, ◌++◌, length, ◌≡◌, if◌then◌else◌}
 use Rattle.telegram.specs.Outgoing.{bytes_of}
 use Rattle.telegram.specs.declared.payload.Payload.{Payload}
 use Rattle.opening.specs.Opening.{reply_of}

@@ -1,4 +1,5 @@
 -- How frames are sorted by the conditions of specs/Rows.antt: the replies to a C0, which shut one another out, and the telegrams that a profile has. And the ID listened on.
+use Rattle.std.specs.Prelude.{if◌then◌else◌}
 use Prim.Native.Nat.{ℕ}
 use mathlib.Core.Bool.{Bool, true, false, ◌&&◌, ◌||◌, not, and-true}
 use mathlib.Core.List.{List}
@@ -6,7 +7,6 @@ use mathlib.Core.Path.{◌≡◌, refl}
 use lib.ListN.{length, get_or}
 use lib.Dec.{leb, eqb}
 use borrow.Author.Tests.{eqb-true}
-use Rattle.laws.specs.If.{if◌then◌else◌}
 use Rattle.laws.proofs.Branches.{and-off'}
 use Rattle.laws.proofs.Cases.{by, either, and_first, and_second}
 use Rattle.telegram.specs.Kinds.{sorted}

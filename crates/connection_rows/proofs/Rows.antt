@@ -1,5 +1,6 @@
 -- For each call and each number: the number is said exactly where a row of it holds and none before it in the call's table does,
 -- and what the call leaves with it. The tables stand in specs/Rows.antt, `Says` and `Given` in crates/open_rows/specs/Tables.antt.
+use Rattle.std.specs.Prelude.{if◌then◌else◌}
 use Prim.Native.Nat.{ℕ}
 use mathlib.Core.Bool.{Bool, true, false, not, ◌&&◌, ◌||◌, or-false, true≢false, false≢true}
 use mathlib.Core.List.{List}
@@ -8,7 +9,7 @@ use mathlib.Core.Path.{◌≡◌, refl, sym, ap, ◌∙◌}
 use lib.ListN.{get_or}
 use lib.Dec.{eqb}
 use borrow.Author.Tests.{ne_eqb, not-true}
-use Rattle.laws.specs.If.{if◌then◌else◌}
+use Rattle.laws.specs.If.{when◌then◌else◌}
 use Rattle.laws.proofs.Cases.{either, and_first, and_second, or-first, or-second}
 use Rattle.telegram.specs.declared.cutting.Message.{Message}
 use Rattle.profile.specs.declared.Profile.{Profile}
@@ -96,7 +97,7 @@ module _ (limit : ℕ) (c : Connection) (id : ℕ) (s b : List ℕ) where
   pub arrive-keeps-buffer : (arrive_says limit c id s b).0.number ≢ 0 → (arrive_says limit c id s b).1.2 ≡ b
   arrive-keeps-buffer refuses =
       rw (ne_eqb _ _ refuses) at
-      (every (arrival_table limit c id s b) (arrive-told limit c id s b) (λ a x. if eqb a.number 0 then Unit else x.2 ≡ b)
+      (every (arrival_table limit c id s b) (arrive-told limit c id s b) (λ a x. when eqb a.number 0 then Unit else x.2 ≡ b)
       (refl, (refl, (refl, (refl, (refl, (refl, (refl, (refl, (refl, (refl, (refl, (refl, tt)))))))))))))
 
   -- "11 | D6, D7 or D8, with that opcode", and no other answer has one

@@ -1,8 +1,7 @@
 -- Demand 1, as one claim: what each call says and leaves is what its table in specs/Rows.antt tells, and each number is given exactly
 -- where the table gives it, for every record, ID, frame, buffer, profile, settings, time, message length and room. proofs/Demand1.antt proves it.
-use Rattle.std.specs.Prelude.{ℕ, true, false, List, ◌↔◌, ◌≢◌, ◌≡◌, length, take, get_or, eqb}
+use Rattle.std.specs.Prelude.{ℕ, true, false, List, ◌↔◌, ◌≢◌, ◌≡◌, length, take, get_or, eqb, if◌then◌else◌}
 use Rattle.std.specs.Borrow.{Bor}
-use Rattle.laws.specs.If.{if◌then◌else◌}
 use Rattle.telegram.specs.Cutting.{longest}
 use Rattle.profile.specs.declared.Profile.{Profile}
 use Rattle.settings.specs.declared.Settings.{Settings}

@@ -1,8 +1,7 @@
 -- 01, "Numbers we answer with": each call's rows in the order of 01, in TP 2.0 and in TP 1.6 (02, request 10). What they ask and what they leave is
 -- written from the record's fields, those of its profile too, numbers and bytes, apart from the definitions that the promises cite: of those only the calls are named here.
 -- What belongs to an open channel stands in crates/open_rows. proofs/Rows.antt proves that each call says and leaves what its table tells.
-use Rattle.std.specs.Prelude.{ℕ, ◌+◌, ◌-◌, ◌/◌, ◌%◌, Bool, true, false, not, ◌&&◌, ◌||◌, List, [], ◌∷◌, length, get_or, ltb, leb, eqb}
-use Rattle.laws.specs.If.{if◌then◌else◌}
+use Rattle.std.specs.Prelude.{ℕ, ◌+◌, ◌-◌, ◌/◌, ◌%◌, Bool, true, false, not, ◌&&◌, ◌||◌, List, [], ◌∷◌, length, get_or, ltb, leb, eqb, if◌then◌else◌}
 use Rattle.telegram.specs.declared.payload.Payload.{Payload}
 use Rattle.profile.specs.declared.Profile.{Profile}
 use Rattle.settings.specs.declared.Settings.{Settings}

@@ -1,11 +1,11 @@
 -- One direction of a connection by itself: the sending half of one end, the receiving half of the other,
 -- the data frames of the one link and the Acks of the other, and what happened so far.
 -- A move runs the very definition of the half that it is about. What else an end does (tests, the other direction) is no move of this one.
+use Rattle.std.specs.Prelude.{if◌then◌else◌}
 use Prim.Native.Nat.{ℕ, ◌+◌, ◌-◌, ◌*◌, ◌/◌, ◌%◌}
 use mathlib.Core.Bool.{Bool, true, false, not}
 use mathlib.Core.List.{List, [], ◌∷◌, ◌++◌}
 use lib.ListN.{length, take, drop}
-use Rattle.laws.specs.If.{if◌then◌else◌}
 use Rattle.telegram.specs.Cutting.{stream_of, last_at, asks_at}
 use Rattle.sender.specs.Sending.{offered, on_ack, passed, handed, first_number}
 use Rattle.sender.specs.declared.Terms.{Terms}

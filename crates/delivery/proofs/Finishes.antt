@@ -1,12 +1,12 @@
 -- One direction, after every list of moves in which waits are in time, messages are taken first and no end is closed: the second half of demand 3.
 -- Whatever makes of its calls a list of such moves has all of this of that direction.
+use Rattle.std.specs.Prelude.{if◌then◌else◌}
 use Prim.Native.Nat.{ℕ, ◌+◌, ◌*◌, ◌≤◌, ◌<◌}
 use native.Mathlib.Omega.{arith}
 use mathlib.Core.Bool.{true, false}
 use mathlib.Core.List.{List, [], ◌∷◌}
 use mathlib.Core.Path.{◌≡◌, sym, ap, subst, ◌∙◌}
 use lib.ListN.{length, get_or}
-use Rattle.laws.specs.If.{if◌then◌else◌}
 use Rattle.laws.proofs.Cases.{by}
 use Rattle.telegram.specs.Cutting.{frames_of}
 use Rattle.sender.specs.Sending.{frame_due}

@@ -1,11 +1,11 @@
 -- Every move keeps the invariant, as long as the receiving end's buffer holds each message accepted.
+use Rattle.std.specs.Prelude.{if◌then◌else◌}
 use Prim.Native.Nat.{ℕ, zero, suc, ◌+◌, max, ◌≤◌}
 use native.Mathlib.Omega.{arith}
 use mathlib.Core.Bool.{Bool, true, false, true≢false, false≢true, or-false}
 use mathlib.Core.List.{List, [], ◌∷◌, ◌++◌}
 use mathlib.Core.Path.{◌≡◌, refl, sym, subst, ◌∙◌}
 use lib.ListN.{length, get_or}
-use Rattle.laws.specs.If.{if◌then◌else◌}
 use Rattle.laws.proofs.Cases.{by}
 use Rattle.sender.specs.Sending.{offered, handed}
 use Rattle.sender.specs.declared.Sender.{Sender}

@@ -15,7 +15,7 @@ use Rattle.delivery.proofs.Mod16.{same-shown}
 use Rattle.telegram.specs.Cutting.{none, frames_of}
 use Rattle.telegram.specs.declared.kinds.Telegram.TheVariants.{Data}
 use Rattle.sender.specs.declared.Sender.{Sender}
-use Rattle.receiver.specs.Receiving.{ack_after, kept, on_data, is_used, buffered, took}
+use Rattle.receiver.specs.Receiving.{ack_after, kept, on_data, is_used, took}
 use Rattle.telegram.specs.declared.cutting.Message.{Message}
 use Rattle.receiver.specs.declared.Standing.{Standing}
 use Rattle.receiver.specs.declared.AckDue.{AckDue}

@@ -1,4 +1,5 @@
 -- What the moves at the sending end keep: a message offered, an Ack heard, time passed, a frame handed over.
+use Rattle.std.specs.Prelude.{if◌then◌else◌}
 use Prim.Native.Nat.{ℕ, suc, ◌+◌, ◌-◌, ◌*◌, max, ◌%◌, ◌≤◌, ◌<◌}
 use native.Mathlib.Nat.{mul-mod_left}
 use native.Mathlib.Omega.{arith}
@@ -10,7 +11,6 @@ use lib.Dec.{eqb}
 use borrow.Author.Tests.{eq-eqb, not-true}
 use lib.ListN.{length, take, drop, get_or, length-append, length-map, length-take, get_or-append}
 use lib.Seq.{get_or_at, take-append-le}
-use Rattle.laws.specs.If.{if◌then◌else◌}
 use Rattle.laws.proofs.Cases.{by-lt}
 use Rattle.telegram.specs.Cutting.{stream_of, frames_of, asks_at, last_at}
 use Rattle.sender.specs.Sending.{accepted, offered, distance, acknowledged, finished, held_for, again, later, advanced, on_ack, passed, handed}

@@ -1,4 +1,5 @@
 -- What the moves at the receiving end keep of the tries: a data frame, a message taken, the due Ack handed over.
+use Rattle.std.specs.Prelude.{if◌then◌else◌}
 use Prim.Native.Nat.{ℕ, ◌+◌, min, ◌%◌, ◌≤◌, ◌<◌}
 use native.Mathlib.Nat.{mod-mod, mod-eq_of_lt}
 use native.Mathlib.Omega.{arith}
@@ -9,7 +10,6 @@ use mathlib.Core.Path.{◌≡◌, refl, sym, ap, subst, ◌∙◌}
 use lib.Dec.{eqb}
 use lib.ListN.{length, length-append}
 use borrow.Author.Tests.{eqb-true, eqb-false, eq-eqb, ne_eqb}
-use Rattle.laws.specs.If.{if◌then◌else◌}
 use Rattle.laws.proofs.Cases.{by, either}
 use Rattle.delivery.proofs.Mod16.{same-shown, on-shown}
 use Rattle.sender.specs.declared.Terms.{Terms}
@@ -26,7 +26,7 @@ use Rattle.delivery.specs.System.{Try, ShownMessage, Fate, handing, losing}
 use Rattle.delivery.specs.System.Fate.{goes, stays, lost}
 use Rattle.delivery.proofs.Core.{DataFrame, AckFrame, Direction, with_frames, with_receiving, with_ack, asked_by, received_to, received, receiving, took_to}
 use Rattle.delivery.proofs.Count.{Spared, not_spared}
-use Rattle.delivery.proofs.ReceivingKeeps.{received-length, unused_by, unused-received}
+use Rattle.delivery.proofs.ReceivingKeeps.{received-length, unused-received}
 use Rattle.delivery.proofs.Tries.{Sends, Row, Leftover, Says, Answers, Due, Ghosts, VacantOf, BlockOf, OverOf, PaceOf, LineOf, OnItsWayOf, AnsweredOf, Stage, stage-as, Tried}
 use Rattle.delivery.proofs.Tries.Row.{frame}
 use Rattle.delivery.proofs.Tries.Leftover.{none, one}

@@ -1,4 +1,5 @@
 -- What the moves at the sending end keep of the tries: time passed, a frame handed over, a message offered.
+use Rattle.std.specs.Prelude.{if◌then◌else◌}
 use Prim.Native.Nat.{ℕ, suc, ◌+◌, ◌-◌, ◌*◌, min, ◌/◌, ◌%◌, ◌≤◌, ◌<◌}
 use native.Mathlib.Nat.{mod-eq_of_lt, mul-mod_left, mul-add-mod_self_right, div-eq_of_lt-le}
 use native.Mathlib.Omega.{arith}
@@ -10,7 +11,6 @@ use lib.Dec.{eqb}
 use lib.ListN.{length, length-append, get_or-append}
 use lib.Seq.{get_or_at}
 use borrow.Author.Tests.{eqb-true, eqb-false, eq-eqb, ne_eqb}
-use Rattle.laws.specs.If.{if◌then◌else◌}
 use Rattle.laws.proofs.Branches.{or-on, or-on', or_off}
 use Rattle.laws.proofs.Cases.{by_le, by-eq}
 use Rattle.telegram.specs.Cutting.{frames_of, asks_at}

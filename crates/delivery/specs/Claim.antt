@@ -1,6 +1,5 @@
 -- Demand 3, sentence by sentence: what is assumed of two ends, their links and a list of calls, and what then holds after the list.
-use Rattle.std.specs.Prelude.{ℕ, ◌+◌, ◌*◌, ◌≤◌, ◌<◌, Bool, true, false, ◌≡◌, ◌⊎◌, List, [], ◌∷◌, ◌++◌, map, length, get_or, take, eqb}
-use Rattle.laws.specs.If.{if◌then◌else◌}
+use Rattle.std.specs.Prelude.{ℕ, ◌+◌, ◌*◌, ◌≤◌, ◌<◌, Bool, true, false, ◌≡◌, ◌⊎◌, List, [], ◌∷◌, ◌++◌, map, length, get_or, take, eqb, if◌then◌else◌}
 use Rattle.telegram.specs.Kinds.{sorted}
 use Rattle.telegram.specs.Cutting.{frames_of}
 use Rattle.sender.specs.Sending.{fresh as fresh_sender}

@@ -1,6 +1,5 @@
 -- A bare channel as an end: what the other ends are held to (Laws.antt), and an end by itself.
-use Rattle.std.specs.Prelude.{ℕ, Bool, true, false, not, List, [], drop}
-use Rattle.laws.specs.If.{if◌then◌else◌}
+use Rattle.std.specs.Prelude.{ℕ, Bool, true, false, not, List, [], drop, if◌then◌else◌}
 use Rattle.telegram.specs.Outgoing.{bytes_of}
 use Rattle.telegram.specs.Kinds.{sorted}
 use Rattle.telegram.specs.Cutting.{none}

@@ -24,6 +24,7 @@ use receiver::Taking;
 use sender::Terms;
 use telegram::kinds;
 use telegram::payload::Payload;
+use text::input::read_full;
 use text::output::Output;
 use text::{reading, writing};
 
@@ -57,14 +58,14 @@ struct Ends {
     output: Output,
 }
 
-fn main() {
-    let mut text = io::large_buffer();
-    let n = io::read_full(0, &mut text);
+fn main(rt: HostRuntime) {
+    let mut text = [0u8; 65536];
+    let n = read_full(&rt, &mut text);
     let mut message = [0; 120];
     count_up(&mut message);
     let mut buffer = [0; 120];
     let mut line = [0; 1024];
-    lines(&text[..n], &message, &mut buffer, &mut line);
+    lines(&rt, &text[..n], &message, &mut buffer, &mut line);
 }
 
 // The bytes 0, 1, 2 and so on.
@@ -77,12 +78,18 @@ fn count_up(bytes: &mut [u8]) {
 }
 
 // Runs the lines one by one, until one cannot be written. The ends that the letters act on stay from line to line.
-fn lines(text: &[u8], message: &[u8], buffer: &mut [u8], line: &mut [u8]) {
+fn lines<R: Print + Eprint>(
+    rt: &R,
+    text: &[u8],
+    message: &[u8],
+    buffer: &mut [u8],
+    line: &mut [u8],
+) {
     let mut ends = fresh();
     let mut at = 0;
     while at < text.len() {
         let next = next_line(text, at);
-        ends = ends.played(reading::part(text, at, next), message, buffer, line);
+        ends = ends.played(rt, reading::part(text, at, next), message, buffer, line);
         if ends.is_cut_off() {
             return;
         }
@@ -120,13 +127,20 @@ fn without_end(text: &[u8]) -> usize {
 }
 
 // Runs the letters one by one, until a line cannot be written.
-fn letters(start: Ends, text: &[u8], message: &[u8], buffer: &mut [u8], line: &mut [u8]) -> Ends {
+fn letters<R: Print + Eprint>(
+    rt: &R,
+    start: Ends,
+    text: &[u8],
+    message: &[u8],
+    buffer: &mut [u8],
+    line: &mut [u8],
+) -> Ends {
     let mut ends = start;
     let mut i = 0;
     while i < text.len() {
         let c = text[i];
         i += 1;
-        ends = letter(ends, c, message, buffer, line);
+        ends = letter(rt, ends, c, message, buffer, line);
         if ends.is_cut_off() {
             return ends;
         }
@@ -135,8 +149,15 @@ fn letters(start: Ends, text: &[u8], message: &[u8], buffer: &mut [u8], line: &m
 }
 
 // A call, and its line.
-fn letter(ends: Ends, c: u8, message: &[u8], buffer: &mut [u8], line: &mut [u8]) -> Ends {
-    written(ends, c, message, buffer, line).said(line)
+fn letter<R: Print + Eprint>(
+    rt: &R,
+    ends: Ends,
+    c: u8,
+    message: &[u8],
+    buffer: &mut [u8],
+    line: &mut [u8],
+) -> Ends {
+    written(ends, c, message, buffer, line).said(rt, line)
 }
 
 // A call, and its line in line.
@@ -195,24 +216,31 @@ fn fate_back(ends: Ends, c: u8, buffer: &mut [u8], line: &mut [u8]) -> Ends {
 
 impl Ends {
     // Runs a line.
-    fn played(self, text: &[u8], message: &[u8], buffer: &mut [u8], line: &mut [u8]) -> Ends {
+    fn played<R: Print + Eprint>(
+        self,
+        rt: &R,
+        text: &[u8],
+        message: &[u8],
+        buffer: &mut [u8],
+        line: &mut [u8],
+    ) -> Ends {
         let run = reading::part(text, 0, without_end(text));
         if both::is_run(run) {
-            return self.answered(run, line);
+            return self.answered(rt, run, line);
         }
-        letters(self, text, message, buffer, line)
+        letters(rt, self, text, message, buffer, line)
     }
 
     // Plays the run of both ends that a line asks for.
-    fn answered(mut self, run: &[u8], line: &mut [u8]) -> Ends {
+    fn answered<R: Print + Eprint>(mut self, rt: &R, run: &[u8], line: &mut [u8]) -> Ends {
         self.at = both::answer(run, line);
-        self.said(line)
+        self.said(rt, line)
     }
 
     // The line is written out.
-    fn said(mut self, line: &[u8]) -> Ends {
+    fn said<R: Print + Eprint>(mut self, rt: &R, line: &[u8]) -> Ends {
         let output = self.output;
-        let next = output.say(reading::part(line, 0, self.at));
+        let next = output.say(rt, reading::part(line, 0, self.at));
         self.output = next;
         self
     }

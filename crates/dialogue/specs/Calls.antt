@@ -1,6 +1,5 @@
 -- What a line asks for: the calls that every record has.
-use Rattle.std.specs.Prelude.{ℕ, ◌%◌, Bool, ◌||◌, List, length, ◌==◌, nat_lt, slice_index}
-use Rattle.laws.specs.If.{if◌then◌else◌}
+use Rattle.std.specs.Prelude.{ℕ, ◌%◌, Bool, ◌||◌, List, length, ◌==◌, nat_lt, slice_index, if◌then◌else◌}
 use Rattle.text.specs.declared.reading.Number.{Number}
 use Rattle.text.specs.declared.reading.Number.TheVariants.{Value, TooLarge, Bad as NoNumber}
 use Rattle.text.specs.declared.reading.Bytes.{Bytes}

@@ -1,7 +1,6 @@
 -- A line that is read into a lent text. What comes in is outside of any contract; what becomes of it is not.
-use Rattle.std.specs.Prelude.{◌≡◌, ℕ, ◌-◌, ◌<◌, min, List, length, ◌==◌, ◌≢◌, slice_index}
+use Rattle.std.specs.Prelude.{◌≡◌, ℕ, ◌-◌, ◌<◌, min, List, length, ◌==◌, ◌≢◌, slice_index, if◌then◌else◌}
 use Rattle.std.proofs.lemmas.List.Edits.{sets}
-use Rattle.laws.specs.If.{if◌then◌else◌}
 use Rattle.dialogue.specs.declared.lines.Line.{Line}
 
 -- the length of a line of n characters without the CR that belongs to its LF

@@ -1,6 +1,5 @@
 -- What a line asks a table for: a call, and in front of it the place that it names, if it names one.
-use Rattle.std.specs.Prelude.{ℕ, Bool, true, false, not, List, length, nat_lt}
-use Rattle.laws.specs.If.{if◌then◌else◌}
+use Rattle.std.specs.Prelude.{ℕ, Bool, true, false, not, List, length, nat_lt, if◌then◌else◌}
 use Rattle.text.specs.Numbers.{number_of}
 use Rattle.text.specs.declared.reading.Number.{Number}
 use Rattle.text.specs.declared.reading.Number.TheVariants.{Value, TooLarge, Bad as NoNumber}

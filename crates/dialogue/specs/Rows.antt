@@ -1,6 +1,5 @@
 -- An opening in TP 1.6 as words: the row's name, and settings behind it.
-use Rattle.std.specs.Prelude.{ℕ, List, ◌==◌}
-use Rattle.laws.specs.If.{if◌then◌else◌}
+use Rattle.std.specs.Prelude.{ℕ, List, ◌==◌, if◌then◌else◌}
 use Rattle.profile.specs.Profile as profile
 use Rattle.profile.specs.declared.Profile.{Profile}
 use Rattle.settings.specs.Settings.{defaults16}

@@ -16,6 +16,7 @@
 use crate::units::{Tally, same};
 use crate::ways::Way;
 use open_end::shown;
+use text::input::read_full;
 use text::output::Output;
 use text::reading::Number;
 use text::{reading, writing};
@@ -35,42 +36,56 @@ enum Asked {
     Wrong,
 }
 
-fn main() {
-    let mut text = io::buffer();
-    let n = io::read_full(0, &mut text);
+fn main(rt: HostRuntime) {
+    let mut text = [0u8; 4096];
+    let n = read_full(&rt, &mut text);
     let mut messages = [0; 8048];
     let mut frames = [0; 9408];
     let mut buffers = [0; 8192];
     units::compose(&mut messages);
     units::cut(&messages, &mut frames);
-    answer(read(&text[..n]), &messages, &frames, &mut buffers);
+    answer(&rt, read(&text[..n]), &messages, &frames, &mut buffers);
 }
 
-fn answer(asked: Asked, messages: &[u8], frames: &[u8], buffers: &mut [u8]) {
+fn answer<R: Print + Eprint>(
+    rt: &R,
+    asked: Asked,
+    messages: &[u8],
+    frames: &[u8],
+    buffers: &mut [u8],
+) {
     match asked {
-        Asked::Each => each(messages, frames, buffers),
-        Asked::One { way, rounds } => tell(ways::play(way, rounds, messages, frames, buffers)),
-        Asked::Wrong => wrong(),
+        Asked::Each => each(rt, messages, frames, buffers),
+        Asked::One { way, rounds } => tell(rt, ways::play(way, rounds, messages, frames, buffers)),
+        Asked::Wrong => wrong(rt),
     }
 }
 
-fn wrong() {
+fn wrong<R: Print + Eprint>(rt: &R) {
     Output::fresh().say(
+        rt,
         b"error: standard input is not WAY ROUNDS: single, table or calls, and a number from 1 to 1000000\n",
     );
 }
 
 // One round each way.
-fn each(messages: &[u8], frames: &[u8], buffers: &mut [u8]) {
-    named(b"single\n", Way::Single, messages, frames, buffers);
-    named(b"table\n", Way::Table, messages, frames, buffers);
-    named(b"calls\n", Way::Calls, messages, frames, buffers);
+fn each<R: Print + Eprint>(rt: &R, messages: &[u8], frames: &[u8], buffers: &mut [u8]) {
+    named(rt, b"single\n", Way::Single, messages, frames, buffers);
+    named(rt, b"table\n", Way::Table, messages, frames, buffers);
+    named(rt, b"calls\n", Way::Calls, messages, frames, buffers);
 }
 
 // One round of a way, its name before its lines.
-fn named(name: &[u8], way: Way, messages: &[u8], frames: &[u8], buffers: &mut [u8]) {
-    Output::fresh().say(name);
-    tell(ways::play(way, 1, messages, frames, buffers));
+fn named<R: Print + Eprint>(
+    rt: &R,
+    name: &[u8],
+    way: Way,
+    messages: &[u8],
+    frames: &[u8],
+    buffers: &mut [u8],
+) {
+    Output::fresh().say(rt, name);
+    tell(rt, ways::play(way, 1, messages, frames, buffers));
 }
 
 fn read(text: &[u8]) -> Asked {
@@ -141,14 +156,14 @@ fn choice(name: &[u8], rounds: u64) -> Asked {
     Asked::Wrong
 }
 
-fn tell(tally: Tally) {
+fn tell<R: Print + Eprint>(rt: &R, tally: Tally) {
     if tally.wrong {
-        Output::fresh().say(b"error: a message was not handed out as it was sent\n");
+        Output::fresh().say(rt, b"error: a message was not handed out as it was sent\n");
         return;
     }
     let mut text = [0; 256];
     let end = report(&mut text, tally);
-    Output::fresh().say(shown(&text, end));
+    Output::fresh().say(rt, shown(&text, end));
 }
 
 fn report(text: &mut [u8], tally: Tally) -> usize {

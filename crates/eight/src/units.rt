@@ -81,7 +81,7 @@ pub(crate) fn compose(messages: &mut [u8]) {
             b = unit;
         }
         messages[i] = b;
-        b = std::num::wrapping_add_u8(b, 2 * unit + 3);
+        b = b.wrapping_add(2 * unit + 3);
         i += 1;
     }
 }
@@ -170,8 +170,8 @@ impl Tally {
     }
 
     fn with_frame(mut self, len: usize) -> Tally {
-        self.frames = std::num::wrapping_add_u64(self.frames, 1);
-        self.bytes = std::num::wrapping_add_u64(self.bytes, len as u64);
+        self.frames = self.frames.wrapping_add(1);
+        self.bytes = self.bytes.wrapping_add(len as u64);
         self
     }
 
@@ -181,7 +181,7 @@ impl Tally {
         let mut tally = self.with_frame(payload.len);
         let nth = (step % 256) as u64;
         let mixed = (4099 * nth + 257 * (frame.id as u64) + weighed(&bytes) % 65536) % 65521;
-        tally.checksum = std::num::wrapping_add_u64(tally.checksum, mixed);
+        tally.checksum = tally.checksum.wrapping_add(mixed);
         tally
     }
 
@@ -193,8 +193,8 @@ impl Tally {
         message: &[u8],
         messages: &[u8],
     ) -> Tally {
-        self.messages = std::num::wrapping_add_u64(self.messages, 1);
-        self.checksum = std::num::wrapping_add_u64(self.checksum, sum(message));
+        self.messages = self.messages.wrapping_add(1);
+        self.checksum = self.checksum.wrapping_add(sum(message));
         if (flags != 0) | !same(message, message_of(messages, unit)) {
             self.wrong = true;
         }
@@ -204,11 +204,11 @@ impl Tally {
 
 // The eight bytes of a telegram, each weighed twice as much as the next.
 fn weighed(bytes: &[u8; 8]) -> u64 {
-    let mut total = 0;
+    let mut total: u64 = 0;
     let mut i = 0;
     while i < 8 {
-        total = std::num::wrapping_add_u64(total, total);
-        total = std::num::wrapping_add_u64(total, wide(bytes[i]));
+        total = total.wrapping_add(total);
+        total = total.wrapping_add(wide(bytes[i]));
         i += 1;
     }
     total
@@ -219,10 +219,10 @@ fn wide(b: u8) -> u64 {
 }
 
 fn sum(bytes: &[u8]) -> u64 {
-    let mut total = 0;
+    let mut total: u64 = 0;
     let mut i = 0;
     while i < bytes.len() {
-        total = std::num::wrapping_add_u64(total, wide(bytes[i]));
+        total = total.wrapping_add(wide(bytes[i]));
         i += 1;
     }
     total

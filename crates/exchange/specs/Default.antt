@@ -1,8 +1,7 @@
 -- 02, request 3: "Change the default block size from 15 to 8." What an opening with the default settings agrees with an A1 of any block size
 -- from 1 to 15, over bytes, and a long message behind it. `default-blocks` and `default-asks` of proofs/Default.antt prove the two.
-use Rattle.std.specs.Prelude.{ℕ, ◌+◌, ◌*◌, ◌≤◌, ◌<◌, ◌≡◌, ltb, get_or, replicate}
+use Rattle.std.specs.Prelude.{ℕ, ◌+◌, ◌*◌, ◌≤◌, ◌<◌, ◌≡◌, ltb, get_or, replicate, if◌then◌else◌}
 use mathlib.Core.List.{List, [], ◌∷◌, ◌++◌, map, flat_map}
-use Rattle.laws.specs.If.{if◌then◌else◌}
 use Rattle.settings.specs.Settings.{defaults}
 use Rattle.connection.specs.Record.{closed_record}
 use Rattle.exchange.specs.Exchange.{Call, open_with, frame, due, send, After, run}

@@ -1,8 +1,7 @@
 -- 01, "The exchange of source 004" and "Time codes": the exchange as a list of calls, what each does by the very definitions that the contracts of
 -- `connection` cite, and what 01 prints. `exchange` of proofs/Exchange.antt proves that the one comes to the other.
-use Rattle.std.specs.Prelude.{ℕ, length, take as first_of, replicate, eqb}
+use Rattle.std.specs.Prelude.{ℕ, length, take as first_of, replicate, eqb, if◌then◌else◌}
 use mathlib.Core.List.{List, [], ◌∷◌, ◌++◌, map, flat_map}
-use Rattle.laws.specs.If.{if◌then◌else◌}
 use Rattle.telegram.specs.Time.{tenths_of}
 use Rattle.telegram.specs.Outgoing.{bytes_of}
 use Rattle.telegram.specs.Cutting.{longest}

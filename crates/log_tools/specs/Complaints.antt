@@ -1,6 +1,5 @@
 -- What a tool says on standard error of a word that is wrong, and of a file that cannot be opened.
-use Rattle.std.specs.Prelude.{ℕ, ◌||◌, List, [], ◌∷◌, ◌++◌, length, ltb, eqb}
-use Rattle.laws.specs.If.{if◌then◌else◌}
+use Rattle.std.specs.Prelude.{ℕ, ◌||◌, List, [], ◌∷◌, ◌++◌, length, ltb, eqb, if◌then◌else◌}
 use Rattle.laws.specs.Characters.{ascii}
 use Rattle.text.specs.Written.{decimal_of}
 

@@ -1,6 +1,5 @@
 -- The words that a tool is started with: `[--room N] [--chunk N] [FILE]`, and `[--places N]` for a tool that makes a list.
-use Rattle.std.specs.Prelude.{ℕ, Bool, true, false, not, ◌&&◌, List, [], ◌∷◌, length, take, get_or, leb, eqb}
-use Rattle.laws.specs.If.{if◌then◌else◌}
+use Rattle.std.specs.Prelude.{ℕ, Bool, true, false, not, ◌&&◌, List, [], ◌∷◌, length, take, get_or, leb, eqb, if◌then◌else◌}
 use Rattle.laws.specs.Characters.{ascii}
 use Rattle.telegram.specs.Cutting.{longest}
 use Rattle.text.specs.Numbers.{number_of}

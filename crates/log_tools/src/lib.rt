@@ -3,5 +3,6 @@
 #![tactic(auto)]
 
 pub mod complaints;
+pub mod failures;
 pub mod lines;
 pub mod options;

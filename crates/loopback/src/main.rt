@@ -21,6 +21,7 @@ use sender::Terms;
 use settings::Settings;
 use telegram::kinds::Parameters;
 use telegram::time::tenths;
+use text::input::read_full;
 use text::output::Output;
 use text::reading::Number;
 use text::{reading, writing};
@@ -71,22 +72,25 @@ struct Ends {
     tally: Tally,
 }
 
-fn main() {
-    let mut text = io::buffer();
-    let n = io::read_full(0, &mut text);
+fn main(rt: HostRuntime) {
+    let mut text = [0u8; 4096];
+    let n = read_full(&rt, &mut text);
     let rounds = read_rounds(&text[..n]);
     if rounds == 0 {
-        Output::fresh().say(b"error: standard input is not a number of rounds from 1 to 1000000\n");
+        Output::fresh().say(
+            &rt,
+            b"error: standard input is not a number of rounds from 1 to 1000000\n",
+        );
         return;
     }
     let mut message = [0; 1024];
     let mut buffer = [0; 1024];
     let ends = play(rounds, &mut message, &mut buffer);
     if ends.wrong {
-        Output::fresh().say(b"error: a message was not handed out as it was sent\n");
+        Output::fresh().say(&rt, b"error: a message was not handed out as it was sent\n");
         return;
     }
-    tell(ends.tally);
+    tell(&rt, ends.tally);
 }
 
 // The number of rounds: 1 for no text, and 0 for what is no such number. The text may end in a line end.
@@ -159,7 +163,7 @@ fn fill(message: &mut [u8], len: usize, step: u8) {
     let mut i = 0;
     while i < message.len() {
         message[i] = b;
-        b = std::num::wrapping_add_u8(b, step);
+        b = b.wrapping_add(step);
         i += 1;
     }
 }
@@ -345,12 +349,12 @@ impl Tally {
         if len == 0 {
             return self;
         }
-        self.messages = std::num::wrapping_add_u64(self.messages, 1);
+        self.messages = self.messages.wrapping_add(1);
         self
     }
 
     fn with_frame(mut self, bytes: &[u8]) -> Tally {
-        self.frames = std::num::wrapping_add_u64(self.frames, 1);
+        self.frames = self.frames.wrapping_add(1);
         let mut i = 0;
         while i < bytes.len() {
             self = self.with_byte(bytes[i]);
@@ -360,9 +364,9 @@ impl Tally {
     }
 
     fn with_byte(mut self, b: u8) -> Tally {
-        self.bytes = std::num::wrapping_add_u64(self.bytes, 1);
-        self.sum = std::num::wrapping_add_u64(self.sum, b as u64);
-        self.checksum = std::num::wrapping_add_u64(self.checksum, self.sum);
+        self.bytes = self.bytes.wrapping_add(1);
+        self.sum = self.sum.wrapping_add(b as u64);
+        self.checksum = self.checksum.wrapping_add(self.sum);
         self
     }
 }
@@ -385,10 +389,10 @@ fn same(a: &[u8], b: &[u8]) -> bool {
     !differ
 }
 
-fn tell(tally: Tally) {
+fn tell<R: Print + Eprint>(rt: &R, tally: Tally) {
     let mut text = [0; 256];
     let end = report(&mut text, tally);
-    Output::fresh().say(shown(&text, end));
+    Output::fresh().say(rt, shown(&text, end));
 }
 
 fn report(text: &mut [u8], tally: Tally) -> usize {

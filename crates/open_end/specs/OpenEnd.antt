@@ -1,6 +1,5 @@
 -- 01, "Telegrams on an open connection": what an end does once it is open, by its telegrams and on its two CAN IDs.
-use Rattle.std.specs.Prelude.{ℕ, Bool, List, [], drop, eqb}
-use Rattle.laws.specs.If.{if◌then◌else◌}
+use Rattle.std.specs.Prelude.{ℕ, Bool, List, [], drop, eqb, if◌then◌else◌}
 use Rattle.telegram.specs.Outgoing.{payload_of}
 use Rattle.telegram.specs.declared.kinds.Telegram.{Telegram}
 use Rattle.telegram.specs.declared.payload.Payload.{Payload}

@@ -1,11 +1,11 @@
 -- The rows that an open channel meets, call by call and in the order of 01, whatever record the channel is part of: what is left
 -- is told by what becomes of that record. An open end says and leaves what they tell: Arrival.antt, Calls.antt.
+use Rattle.std.specs.Prelude.{if◌then◌else◌}
 use Prim.Native.Nat.{ℕ}
 use mathlib.Core.Bool.{Bool, false, not, ◌&&◌, ◌||◌}
 use mathlib.Core.List.{List}
 use lib.ListN.{length}
 use lib.Dec.{ltb, eqb}
-use Rattle.laws.specs.If.{if◌then◌else◌}
 use Rattle.channel.specs.declared.Channel.{Channel}
 use Rattle.open_end.specs.declared.Frame.{Frame}
 use Rattle.open_rows.specs.Tables.{plain, row, Table, always, ◌or_else◌}

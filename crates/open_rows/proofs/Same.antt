@@ -1,4 +1,5 @@
 -- What specs/Rows.antt writes in its own words, and what the definitions call it.
+use Rattle.std.specs.Prelude.{if◌then◌else◌}
 use Prim.Native.Nat.{ℕ, ◌+◌, ◌*◌, ◌/◌, ◌%◌, ◌^◌, min}
 use native.Mathlib.Nat.{mul_comm}
 use native.Mathlib.Omega.{arith}
@@ -9,7 +10,6 @@ use lib.ListN.{length, take, drop, get_or, length-take}
 use lib.Seq.{drop-drop}
 use lib.Dec.{ltb, leb, eqb}
 use borrow.Author.Tests.{ltb-true, eqb-true}
-use Rattle.laws.specs.If.{if◌then◌else◌}
 use Rattle.laws.proofs.Cases.{either, and_first, and_second, smaller-min}
 use Rattle.telegram.specs.Time.{tenths_of}
 use Rattle.telegram.specs.Outgoing.{payload_of}

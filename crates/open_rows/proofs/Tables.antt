@@ -3,13 +3,13 @@
 --     says     it says a number exactly where the table gives it, and leaves what every row of that number leaves
 --     every    what holds of every row, holds of it
 --     every_held    so does what holds of every row whose condition holds
+use Rattle.laws.specs.If.{when◌then◌else◌}
 use Prim.Native.Nat.{ℕ}
 use mathlib.Core.Bool.{true, false, true≢false, false≢true}
 use mathlib.Core.Logic.{◌↔◌, ◌⊎◌, inl, inr, ⊎_elim}
 use mathlib.Core.Path.{◌≡◌, refl, sym, ◌∙◌, subst}
 use lib.Dec.{eqb}
 use borrow.Author.Tests.{eq-eqb, eqb-false}
-use Rattle.laws.specs.If.{if◌then◌else◌}
 use Rattle.laws.proofs.Cases.{by, either}
 use Rattle.open_end.specs.declared.answers.Said.{Said}
 use Rattle.open_rows.specs.Tables.{Row, Table, always, ◌or_else◌, told_by, Given, Says}
@@ -33,8 +33,8 @@ module _ {A : Type 0} where
 
   -- every row of the number n leaves y where it holds
   abbrev pub Leaving : ℕ → A → Table A → Type 0
-  Leaving n y (always s x) = if eqb s.number n then x ≡ y else Unit
-  Leaving n y (r or_else t) = if eqb r.says.number n then (r.holds ≡ true → r.leaves ≡ y) × Leaving n y t else Leaving n y t
+  Leaving n y (always s x) = when eqb s.number n then x ≡ y else Unit
+  Leaving n y (r or_else t) = when eqb r.says.number n then (r.holds ≡ true → r.leaves ≡ y) × Leaving n y t else Leaving n y t
 
   table-leaving : (n : ℕ) (y : A) (t : Table A) → Leaving n y t → (told_by t).0.number ≡ n → (told_by t).1 ≡ y
   table-leaving n y (always s x) h = λ k. rw (eq-eqb _ _ k) at h

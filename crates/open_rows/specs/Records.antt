@@ -1,7 +1,6 @@
 -- The records of an open channel, field by field: just opened, and what it is to change one part of one; the settings' defaults,
 -- the numbers of TP 2.0, and what two ends agree on.
-use Rattle.std.specs.Prelude.{ℕ, zero, suc, ◌*◌, ◌/◌, ◌%◌, Bool, true, false, ltb}
-use Rattle.laws.specs.If.{if◌then◌else◌}
+use Rattle.std.specs.Prelude.{ℕ, zero, suc, ◌*◌, ◌/◌, ◌%◌, Bool, true, false, ltb, if◌then◌else◌}
 use Rattle.telegram.specs.declared.cutting.Message.{Message}
 use Rattle.profile.specs.declared.Profile.{Profile}
 use Rattle.settings.specs.declared.Settings.{Settings}

@@ -1,8 +1,7 @@
 -- 01, "Telegrams on an open connection" and "Numbers we answer with": the kinds of frame by their bytes, and what the rows of an
 -- open channel ask and leave. All is written from the channel's fields, numbers and bytes, apart from the definitions that the
 -- promises cite. The tables of a connection and of a control unit put them in order.
-use Rattle.std.specs.Prelude.{ℕ, ◌+◌, ◌-◌, ◌*◌, ◌/◌, ◌%◌, Bool, true, false, not, ◌&&◌, ◌||◌, List, [], ◌∷◌, ◌++◌, length, take, drop, get_or, replicate, ltb, leb, eqb}
-use Rattle.laws.specs.If.{if◌then◌else◌}
+use Rattle.std.specs.Prelude.{ℕ, ◌+◌, ◌-◌, ◌*◌, ◌/◌, ◌%◌, Bool, true, false, not, ◌&&◌, ◌||◌, List, [], ◌∷◌, ◌++◌, length, take, drop, get_or, replicate, ltb, leb, eqb, if◌then◌else◌}
 use Rattle.telegram.specs.declared.cutting.Message.{Message}
 use Rattle.telegram.specs.declared.payload.Payload.{Payload}
 use Rattle.profile.specs.declared.Range.{Range}

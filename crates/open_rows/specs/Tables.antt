@@ -1,6 +1,5 @@
 -- Tables of rows: what a call says and leaves is told by the first row whose condition holds.
-use Rattle.std.specs.Prelude.{ℕ, Bool, true, false, ◌⊎◌, ◌↔◌, ◌≡◌}
-use Rattle.laws.specs.If.{if◌then◌else◌}
+use Rattle.std.specs.Prelude.{ℕ, Bool, true, false, ◌⊎◌, ◌↔◌, ◌≡◌, if◌then◌else◌}
 use Rattle.open_end.specs.declared.answers.Said.{Said}
 
 -- a number of the table with nothing more to say

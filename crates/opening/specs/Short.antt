@@ -1,6 +1,5 @@
 -- 02, 10, and SAE J3054 (001), 5.1: the opening frames of TP 1.6. "Channel Setup and Channel Acknowledge messages have a fixed length of 3 data bytes": destination, opcode, channel ID.
-use Rattle.std.specs.Prelude.{ℕ, ◌&&◌, List, [], ◌∷◌, length, get_or, eqb}
-use Rattle.laws.specs.If.{if◌then◌else◌}
+use Rattle.std.specs.Prelude.{ℕ, ◌&&◌, List, [], ◌∷◌, length, get_or, eqb, if◌then◌else◌}
 use Rattle.telegram.specs.Outgoing.{payload_of}
 use Rattle.telegram.specs.declared.payload.Payload.{Payload}
 use Rattle.opening.specs.Opening.{low_of}

@@ -2,6 +2,7 @@
 --     reply-for-short, reply-for-long     what a reply says, by the forms of its bytes
 --     request-bytes, positive_back        a row's frames, both ways
 --     tp20-replies, tp20-requests         TP 2.0 as it was
+use Rattle.std.specs.Prelude.{if◌then◌else◌}
 use Prim.Native.Nat.{ℕ, ◌+◌, ◌-◌, ◌%◌, ◌≤◌, ◌<◌}
 use native.Mathlib.Omega.{arith}
 use mathlib.Core.Bool.{Bool, true, false}
@@ -10,7 +11,6 @@ use mathlib.Core.Logic.{◌↔◌, ◌≢◌, ◌⊎◌, inl, inr}
 use mathlib.Core.Path.{◌≡◌, refl, sym, ap, subst, ◌∙◌}
 use lib.ListN.{length, replicate}
 use borrow.Author.Tests.{eqb-true, eq-eqb}
-use Rattle.laws.specs.If.{if◌then◌else◌}
 use Rattle.laws.proofs.Cases.{by}
 use Rattle.telegram.specs.Forms.{Bytes, Taken, formed}
 use Rattle.telegram.specs.Outgoing.{bytes_of}

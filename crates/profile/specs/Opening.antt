@@ -1,6 +1,5 @@
 -- 02, 10: an opening by the numbers of its profile.
-use Rattle.std.specs.Prelude.{ℕ, ◌+◌, Bool, List, eqb}
-use Rattle.laws.specs.If.{if◌then◌else◌}
+use Rattle.std.specs.Prelude.{ℕ, ◌+◌, Bool, List, eqb, if◌then◌else◌}
 use Rattle.telegram.specs.declared.payload.Payload.{Payload}
 use Rattle.opening.specs.Opening.{request_of, reply_read}
 use Rattle.opening.specs.Short.{short_request_of, short_reply_read}

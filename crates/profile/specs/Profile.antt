@@ -1,6 +1,5 @@
 -- 02, 10, "TP 1.6 cars": the profiles as numbers, from the tables of SAE J3054 (001), and the telegrams that each has.
-use Rattle.std.specs.Prelude.{ℕ, Bool, true, false, not, ◌&&◌, List, leb}
-use Rattle.laws.specs.If.{if◌then◌else◌}
+use Rattle.std.specs.Prelude.{ℕ, Bool, true, false, not, ◌&&◌, List, leb, if◌then◌else◌}
 use Rattle.telegram.specs.Kinds.{sorted}
 use Rattle.telegram.specs.declared.kinds.Sorted.{Sorted}
 use Rattle.telegram.specs.declared.kinds.Telegram.{Telegram}

@@ -1,6 +1,5 @@
 -- Every record that calls can lead to, from a closed one on, and what holds of it. `reachable` of proofs/Reachable.antt proves it.
-use Rattle.std.specs.Prelude.{ℕ, ◌+◌, ◌*◌, ◌/◌, ◌%◌, ◌^◌, ◌<◌, ◌≤◌, true, false, List, [], ◌∷◌, ◌≢◌, ◌⊎◌, ◌≡◌, eqb, length}
-use Rattle.laws.specs.If.{if◌then◌else◌}
+use Rattle.std.specs.Prelude.{ℕ, ◌+◌, ◌*◌, ◌/◌, ◌%◌, ◌^◌, ◌<◌, ◌≤◌, true, false, List, [], ◌∷◌, ◌≢◌, ◌⊎◌, ◌≡◌, eqb, length, if◌then◌else◌}
 use Rattle.telegram.specs.Outgoing.{bytes_of}
 use Rattle.telegram.specs.Forms.{Bytes}
 use Rattle.telegram.specs.declared.cutting.Message.{Message}

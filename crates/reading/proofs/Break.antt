@@ -2,6 +2,7 @@
 --     inner_back       frames with neither AR nor EOM leave the place that a break returns to
 --     read_again       read, broken off and read again, they leave what reading them once leaves
 --     break-returns    a break returns to where the receiver stood behind the last frame that made an Ack due or ended a message
+use Rattle.std.specs.Prelude.{if◌then◌else◌}
 use Prim.Native.Nat.{ℕ, ◌+◌, ◌-◌, ◌%◌, ◌≤◌}
 use native.Mathlib.Omega.{arith}
 use mathlib.Core.Bool.{Bool, true, false, ◌&&◌, ◌||◌}
@@ -11,7 +12,6 @@ use lib.ListN.{length, drop, get_or}
 use lib.Seq.{ext_get_or}
 use lib.Dec.{ltb, eqb}
 use borrow.Author.Tests.{ltb-true, ltb-false, eqb-true, eqb-false}
-use Rattle.laws.specs.If.{if◌then◌else◌}
 use Rattle.laws.proofs.Cases.{either}
 use Rattle.telegram.specs.Kinds.{sorted}
 use Rattle.telegram.specs.declared.kinds.Telegram.TheVariants.{Data}

@@ -14,7 +14,6 @@ use Rattle.telegram.specs.declared.kinds.Telegram.TheVariants.{Data}
 use Rattle.telegram.proofs.RoundTrip.{declares-back}
 use Rattle.telegram.specs.declared.cutting.Message.{Message}
 use Rattle.receiver.specs.declared.Standing.{Standing}
-use Rattle.receiver.specs.declared.Receiver.{Receiver}
 use Rattle.receiver.specs.declared.Receipt.{Receipt}
 use Rattle.receiver.specs.declared.Receipt.TheVariants.{Used}
 use Rattle.receiver.specs.Receiving.{first, following, on_data, pasted, is_used, buffered}

@@ -2,6 +2,7 @@
 --     Given                     the cases, in the order of 01: 12, 5, thrown away, 7 on a later frame, 9, 7 on a first frame
 --     note-given, given-note    a receipt is given in its cases, and only there
 --     *-both-sides              declared lengths on both sides of each limit
+use Rattle.std.specs.Prelude.{if◌then◌else◌}
 use Prim.Native.Nat.{ℕ, ◌+◌, ◌-◌, ◌<◌, ◌≤◌}
 use native.Mathlib.Omega.{arith}
 use mathlib.Core.Bool.{Bool, true, false, false≢true}
@@ -10,7 +11,6 @@ use mathlib.Core.List.{List, [], ◌∷◌}
 use lib.ListN.{length}
 use lib.Dec.{ltb, eqb}
 use borrow.Author.Tests.{ltb-true, ltb-false, eqb-true, eqb-false, lt-ltb, le-ltb, eq-eqb, ne_eqb}
-use Rattle.laws.specs.If.{if◌then◌else◌}
 use Rattle.laws.proofs.Cases.{each}
 use Rattle.receiver.specs.Receiving.{fresh, first, filled, on_first, on_later, on_data}
 use Rattle.telegram.specs.declared.cutting.Message.{Message}

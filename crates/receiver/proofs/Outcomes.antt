@@ -5,6 +5,7 @@
 --     Breaks                        how a frame breaks its message
 --     fitting                       a frame that fits its message is used
 --     TakeOutcome, take-outcome     a take
+use Rattle.std.specs.Prelude.{if◌then◌else◌}
 use Prim.Native.Nat.{ℕ, ◌+◌, ◌-◌, ◌<◌, ◌≤◌}
 use native.Mathlib.Omega.{arith}
 use mathlib.Core.Bool.{Bool, true, false, not, ◌&&◌}
@@ -13,7 +14,6 @@ use mathlib.Core.List.{List}
 use lib.ListN.{length, get_or}
 use lib.Dec.{ltb, eqb}
 use borrow.Author.Tests.{eqb-false, eqb-true, ltb-false, ltb-true, eq-eqb, ne_eqb, le-ltb, not-true}
-use Rattle.laws.specs.If.{if◌then◌else◌}
 use Rattle.laws.proofs.Cases.{by, by-not, by-lt, by-eq, both}
 use Rattle.telegram.specs.Cutting.{none, declared_of}
 use Rattle.receiver.specs.Receiving.{first, waiting, kept, discarded, used, completed, filled, on_first, on_later, on_data, took}

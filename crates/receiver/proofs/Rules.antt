@@ -5,15 +5,15 @@
 --     ack-asked, ack-unasked                        the Ack after a frame
 --     Back, data-back                               the place that a break returns to, after a frame
 --     inside-leaves                                 a frame with neither AR nor EOM leaves it, the complete message and the Ack
-use Prim.Native.Nat.{ℕ, zero, suc, ◌+◌, ◌*◌, ◌-◌, ◌/◌, ◌%◌, ◌<◌, ◌≤◌}
+use Rattle.std.specs.Prelude.{if◌then◌else◌}
+use Prim.Native.Nat.{ℕ, ◌+◌, ◌*◌, ◌-◌, ◌/◌, ◌%◌, ◌<◌, ◌≤◌}
 use native.Mathlib.Omega.{arith}
 use mathlib.Core.Bool.{Bool, true, false, not, ◌&&◌, ◌||◌, false≢true}
 use mathlib.Core.Path.{◌≡◌, refl, ◌∙◌}
 use mathlib.Core.List.{List, [], ◌∷◌}
 use lib.ListN.{length, get_or}
-use lib.Dec.{ltb, eqb}
+use lib.Dec.{eqb}
 use borrow.Author.Tests.{lt-ltb, le-ltb, ne_eqb}
-use Rattle.laws.specs.If.{if◌then◌else◌}
 use Rattle.receiver.specs.Receiving.{fresh, first, waiting, following, settled, numbered, kept, discarded, used, completed, on_data, returned, ack_handed, took}
 use Rattle.telegram.specs.declared.cutting.Message.{Message}
 use Rattle.receiver.specs.declared.Receiver.{Receiver}

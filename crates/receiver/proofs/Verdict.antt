@@ -1,14 +1,14 @@
 -- A first or a later frame is received in two steps: what becomes of it, and what that leaves. Together they are the rules.
-use Prim.Native.Nat.{ℕ, ◌+◌, ◌-◌, ◌%◌, ◌<◌, ◌≤◌}
+use Rattle.std.specs.Prelude.{if◌then◌else◌}
+use Prim.Native.Nat.{ℕ, ◌<◌}
 use native.Mathlib.Nat.{mod-eq_of_lt}
 use native.Mathlib.Omega.{arith}
-use mathlib.Core.Bool.{Bool, true, false, not, ◌&&◌, ◌||◌}
+use mathlib.Core.Bool.{Bool, false, not, ◌&&◌, ◌||◌}
 use mathlib.Core.Path.{◌≡◌, refl, sym, ◌∙◌}
 use mathlib.Core.List.{List}
 use lib.ListN.{length, get_or}
 use lib.Dec.{ltb, eqb}
 use borrow.Author.Tests.{le-ltb}
-use Rattle.laws.specs.If.{if◌then◌else◌}
 use Rattle.laws.proofs.Cases.{either}
 use Rattle.telegram.specs.Cutting.{declared_of}
 use Rattle.receiver.specs.Receiving.{fresh, first, filled, on_first, on_later}

@@ -1,6 +1,5 @@
 -- What functions inside the crate promise. No public promise cites it; proofs/Verdict.antt ties it to what arrives.
-use Rattle.std.specs.Prelude.{ℕ, ◌+◌, ◌-◌, ◌%◌, Bool, not, List, length, get_or, ltb}
-use Rattle.laws.specs.If.{if◌then◌else◌}
+use Rattle.std.specs.Prelude.{ℕ, ◌+◌, ◌-◌, ◌%◌, Bool, not, List, length, get_or, ltb, if◌then◌else◌}
 use Rattle.telegram.specs.Cutting.{none, declared_of}
 use Rattle.receiver.specs.Receiving.{first, discarded, used, completed, on_first, on_later}
 use Rattle.receiver.specs.declared.Brought.{Brought}

@@ -38,20 +38,20 @@ struct Played {
     connection: Connection,
 }
 
-fn main() {
+fn main(rt: HostRuntime) {
     let mut buffer = [0; 1024];
     let mut settings = Settings::DEFAULT;
     settings.block = 15;
     let opened = Connection::closed().open(settings);
-    let begun = hand_over(Output::fresh(), opened.connection, &[]);
-    let played = play(begun, &EXCHANGE, &mut buffer);
+    let begun = hand_over(&rt, Output::fresh(), opened.connection, &[]);
+    let played = play(&rt, begun, &EXCHANGE, &mut buffer);
     let c = played.connection;
     let closed = c.close();
-    hand_over(played.output, closed.connection, &[]);
+    hand_over(&rt, played.output, closed.connection, &[]);
 }
 
 // Plays the entries of an exchange; an entry that is cut off ends it, and so does an output that failed.
-fn play(begun: Played, exchange: &[u8], buffer: &mut [u8]) -> Played {
+fn play<R: Print + Eprint>(rt: &R, begun: Played, exchange: &[u8], buffer: &mut [u8]) -> Played {
     let mut p = begun;
     let mut at = 0;
     while at < exchange.len() {
@@ -69,6 +69,7 @@ fn play(begun: Played, exchange: &[u8], buffer: &mut [u8]) -> Played {
         }
         let next = start + n;
         p = step(
+            rt,
             output,
             p.connection,
             exchange[at],
@@ -80,15 +81,28 @@ fn play(begun: Played, exchange: &[u8], buffer: &mut [u8]) -> Played {
     p
 }
 
-fn step(output: Output, c: Connection, what: u8, entry: &[u8], buffer: &mut [u8]) -> Played {
+fn step<R: Print + Eprint>(
+    rt: &R,
+    output: Output,
+    c: Connection,
+    what: u8,
+    entry: &[u8],
+    buffer: &mut [u8],
+) -> Played {
     if what == 0 {
-        return arrive(output, c, entry, buffer);
+        return arrive(rt, output, c, entry, buffer);
     }
-    send(output, c, entry)
+    send(rt, output, c, entry)
 }
 
 // A CAN frame arrives, and a message that it completes is taken.
-fn arrive(output: Output, c: Connection, entry: &[u8], buffer: &mut [u8]) -> Played {
+fn arrive<R: Print + Eprint>(
+    rt: &R,
+    output: Output,
+    c: Connection,
+    entry: &[u8],
+    buffer: &mut [u8],
+) -> Played {
     if entry.len() < 2 {
         return Played {
             output,
@@ -97,42 +111,52 @@ fn arrive(output: Output, c: Connection, entry: &[u8], buffer: &mut [u8]) -> Pla
     }
     let id = 256 * wide(entry[0]) + wide(entry[1]);
     let arrived = c.arrive(id as u16, &entry[2..], buffer);
-    let taken = take_and_print(output, arrived.connection, buffer);
-    pause(taken.output, taken.connection, &[])
+    let taken = take_and_print(rt, output, arrived.connection, buffer);
+    pause(rt, taken.output, taken.connection, &[])
 }
 
 // Takes the complete message, where it lies in the buffer, and prints it.
-fn take_and_print(output: Output, c: Connection, buffer: &[u8]) -> Played
+fn take_and_print<R: Print + Eprint>(rt: &R, output: Output, c: Connection, buffer: &[u8]) -> Played
     ensures { result.connection ≡ (taken_by c (length buffer.now)).connection }
 {
     let taken = c.take(buffer);
-    print_taken(output, taken.connection, taken.message)
+    print_taken(rt, output, taken.connection, taken.message)
 }
 
 // Prints the message that a take shows, and gives back the record that it leaves.
-fn print_taken(output: Output, connection: Connection, message: &[u8]) -> Played
+fn print_taken<R: Print + Eprint>(
+    rt: &R,
+    output: Output,
+    connection: Connection,
+    message: &[u8],
+) -> Played
     ensures { result.connection ≡ connection }
 {
     Played {
-        output: print_message(output, message),
+        output: print_message(rt, output, message),
         connection,
     }
 }
 
 // A message is sent.
-fn send(output: Output, c: Connection, message: &[u8]) -> Played {
+fn send<R: Print + Eprint>(rt: &R, output: Output, c: Connection, message: &[u8]) -> Played {
     let sent = c.send(message);
-    pause(output, sent.connection, message)
+    pause(rt, output, sent.connection, message)
 }
 
 // The time between two entries passes, and what is due is handed over.
-fn pause(output: Output, c: Connection, message: &[u8]) -> Played {
+fn pause<R: Print + Eprint>(rt: &R, output: Output, c: Connection, message: &[u8]) -> Played {
     let passed = c.elapse(PAUSE);
-    hand_over(output, passed.connection, message)
+    hand_over(rt, output, passed.connection, message)
 }
 
 // Hands over what is due, and prints it: never more than this program's exchange can make due at once.
-fn hand_over(begun: Output, opened: Connection, message: &[u8]) -> Played {
+fn hand_over<R: Print + Eprint>(
+    rt: &R,
+    begun: Output,
+    opened: Connection,
+    message: &[u8],
+) -> Played {
     let mut output = begun;
     let mut c = opened;
     let mut turns: u8 = 4;
@@ -148,7 +172,7 @@ fn hand_over(begun: Output, opened: Connection, message: &[u8]) -> Played {
                 connection: c,
             };
         }
-        output = print_frame(output, frame);
+        output = print_frame(rt, output, frame);
         turns -= 1;
     }
     Played {
@@ -158,18 +182,18 @@ fn hand_over(begun: Output, opened: Connection, message: &[u8]) -> Played {
 }
 
 // A frame on a line of its own: its ID, and its data.
-fn print_frame(output: Output, frame: Frame) -> Output {
+fn print_frame<R: Print + Eprint>(rt: &R, output: Output, frame: Frame) -> Output {
     let payload = frame.payload;
     let data = payload.bytes;
     let mut line = [0; 28];
     let end = writing::id(&mut line, 0, frame.id);
     let end = writing::pairs(&mut line, end, shown(&data, payload.len));
     let end = writing::byte(&mut line, end, b'\n');
-    output.say(shown(&line, end))
+    output.say(rt, shown(&line, end))
 }
 
 // A message on a line of its own; no line for none.
-fn print_message(output: Output, message: &[u8]) -> Output {
+fn print_message<R: Print + Eprint>(rt: &R, output: Output, message: &[u8]) -> Output {
     if message.len() == 0 {
         return output;
     }
@@ -177,7 +201,7 @@ fn print_message(output: Output, message: &[u8]) -> Output {
     let end = writing::bytes(&mut line, 0, b"message");
     let end = writing::pairs(&mut line, end, message);
     let end = writing::byte(&mut line, end, b'\n');
-    output.say(shown(&line, end))
+    output.say(rt, shown(&line, end))
 }
 
 fn wide(b: u8) -> usize

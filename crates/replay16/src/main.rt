@@ -39,7 +39,7 @@ struct Played {
     connection: Connection,
 }
 
-fn main() {
+fn main(rt: HostRuntime) {
     let mut buffer = [0; 1024];
     let row = Profile::drive();
     let mut settings = Settings::default_16(row);
@@ -50,81 +50,92 @@ fn main() {
         output: Output::fresh(),
         connection,
     };
-    let p = set_up_channel(p, &mut buffer);
-    let p = set_up_connection(p, &mut buffer);
-    let p = send_block(p, &mut buffer);
-    let p = send_last(p, &mut buffer);
-    let p = receive_block(p, &mut buffer);
-    let p = receive_last(p, &mut buffer);
-    disconnect(p);
+    let p = set_up_channel(&rt, p, &mut buffer);
+    let p = set_up_connection(&rt, p, &mut buffer);
+    let p = send_block(&rt, p, &mut buffer);
+    let p = send_last(&rt, p, &mut buffer);
+    let p = receive_block(&rt, p, &mut buffer);
+    let p = receive_last(&rt, p, &mut buffer);
+    disconnect(&rt, p);
 }
 
 // A wait's last tenth passes below the next heading: what ends with it stands there, and not above.
-fn set_up_channel(p: Played, buffer: &mut [u8]) -> Played {
-    p.part(b"# 001, 6.1.2: channel set-up missing Ack\n")
-        .hand_over(&[])
-        .wait(T_E - 1, &[])
-        .part(b"# 001, 6.1.1: channel set-up with Ack\n")
-        .wait(1, &[])
-        .arrive(UNIT, b"\x00\xD0\x41", buffer)
+fn set_up_channel<R: Print + Eprint>(rt: &R, p: Played, buffer: &mut [u8]) -> Played {
+    p.part(rt, b"# 001, 6.1.2: channel set-up missing Ack\n")
+        .hand_over(rt, &[])
+        .wait(rt, T_E - 1, &[])
+        .part(rt, b"# 001, 6.1.1: channel set-up with Ack\n")
+        .wait(rt, 1, &[])
+        .arrive(rt, UNIT, b"\x00\xD0\x41", buffer)
 }
 
 // The unit takes blocks of two frames.
-fn set_up_connection(p: Played, buffer: &mut [u8]) -> Played {
-    p.part(b"# 001, 6.2.2: connection set-up missing Ack\n")
-        .hand_over(&[])
-        .wait(T_E - 1, &[])
-        .part(b"# 001, 6.2.1: connection set-up with Ack\n")
-        .wait(1, &[])
-        .arrive(RECEIVE, b"\xA1\x02\x8A\xFF\x4A\xFF", buffer)
+fn set_up_connection<R: Print + Eprint>(rt: &R, p: Played, buffer: &mut [u8]) -> Played {
+    p.part(rt, b"# 001, 6.2.2: connection set-up missing Ack\n")
+        .hand_over(rt, &[])
+        .wait(rt, T_E - 1, &[])
+        .part(rt, b"# 001, 6.2.1: connection set-up with Ack\n")
+        .wait(rt, 1, &[])
+        .arrive(rt, RECEIVE, b"\xA1\x02\x8A\xFF\x4A\xFF", buffer)
 }
 
 // The Ack of both frames is not ready, and then is: we hold for T_WAIT either way.
-fn send_block(p: Played, buffer: &mut [u8]) -> Played {
-    p.part(b"# 001, 5.2.3, 5.2.2.2: data without AR, then with AR; receiver not ready\n")
-        .accept(&REQUEST)
-        .wait(T3, &REQUEST)
-        .wait(T3, &REQUEST)
-        .arrive(RECEIVE, b"\x92", buffer)
-        .wait(T_WAIT / 2, &REQUEST)
-        .arrive(RECEIVE, b"\xB2", buffer)
-        .wait(T_WAIT / 2 - 1, &REQUEST)
+fn send_block<R: Print + Eprint>(rt: &R, p: Played, buffer: &mut [u8]) -> Played {
+    p.part(
+        rt,
+        b"# 001, 5.2.3, 5.2.2.2: data without AR, then with AR; receiver not ready\n",
+    )
+    .accept(&REQUEST)
+    .wait(rt, T3, &REQUEST)
+    .wait(rt, T3, &REQUEST)
+    .arrive(rt, RECEIVE, b"\x92", buffer)
+    .wait(rt, T_WAIT / 2, &REQUEST)
+    .arrive(rt, RECEIVE, b"\xB2", buffer)
+    .wait(rt, T_WAIT / 2 - 1, &REQUEST)
 }
 
 // With its Ack the message is done: nothing is sent again after T1.
-fn send_last(p: Played, buffer: &mut [u8]) -> Played {
-    p.part(b"# 001, 6.2.3: sending data with acknowledge request - ready response\n")
-        .wait(1, &REQUEST)
-        .arrive(RECEIVE, b"\xB3", buffer)
-        .wait(T1, &REQUEST)
+fn send_last<R: Print + Eprint>(rt: &R, p: Played, buffer: &mut [u8]) -> Played {
+    p.part(
+        rt,
+        b"# 001, 6.2.3: sending data with acknowledge request - ready response\n",
+    )
+    .wait(rt, 1, &REQUEST)
+    .arrive(rt, RECEIVE, b"\xB3", buffer)
+    .wait(rt, T1, &REQUEST)
 }
 
 // The answer is of three frames too.
-fn receive_block(p: Played, buffer: &mut [u8]) -> Played {
-    p.part(b"# 001, 5.2.3: the direction changes; data without AR, then with AR\n")
-        .arrive(RECEIVE, b"\x20\x00\x0E\x71\x01\x0C\x0D\x0E", buffer)
-        .wait(T3, &[])
-        .arrive(RECEIVE, b"\x01\x0F\x10\x11\x12\x13\x14\x15", buffer)
-        .wait(T3, &[])
+fn receive_block<R: Print + Eprint>(rt: &R, p: Played, buffer: &mut [u8]) -> Played {
+    p.part(
+        rt,
+        b"# 001, 5.2.3: the direction changes; data without AR, then with AR\n",
+    )
+    .arrive(rt, RECEIVE, b"\x20\x00\x0E\x71\x01\x0C\x0D\x0E", buffer)
+    .wait(rt, T3, &[])
+    .arrive(rt, RECEIVE, b"\x01\x0F\x10\x11\x12\x13\x14\x15", buffer)
+    .wait(rt, T3, &[])
 }
 
-fn receive_last(p: Played, buffer: &mut [u8]) -> Played {
-    p.part(b"# 001, 5.2.3: data with AR and EOM\n")
-        .arrive(RECEIVE, b"\x12\x16\x17", buffer)
-        .wait(T3, &[])
+fn receive_last<R: Print + Eprint>(rt: &R, p: Played, buffer: &mut [u8]) -> Played {
+    p.part(rt, b"# 001, 5.2.3: data with AR and EOM\n")
+        .arrive(rt, RECEIVE, b"\x12\x16\x17", buffer)
+        .wait(rt, T3, &[])
 }
 
-fn disconnect(p: Played) -> Played {
-    p.part(b"# 001, 5.2.3: disconnect\n").close().hand_over(&[])
+fn disconnect<R: Print + Eprint>(rt: &R, p: Played) -> Played {
+    p.part(rt, b"# 001, 5.2.3: disconnect\n")
+        .close()
+        .hand_over(rt, &[])
 }
 
 impl Played {
     // A part of the exchange begins.
-    fn part(self, title: &[u8]) -> Played {
+    fn part<R: Print + Eprint>(self, rt: &R, title: &[u8]) -> Played {
         let output = self.output;
         let connection = self.connection;
         Played {
-            output: output.say(title),
+            output: output.say(rt, title),
             connection,
         }
     }
@@ -136,7 +147,7 @@ impl Played {
     }
 
     // A CAN frame arrives, and a message that it completes is taken and printed.
-    fn arrive(self, id: u16, bytes: &[u8], buffer: &mut [u8]) -> Played {
+    fn arrive<R: Print + Eprint>(self, rt: &R, id: u16, bytes: &[u8], buffer: &mut [u8]) -> Played {
         let output = self.output;
         let c = self.connection;
         let arrived = c.arrive(id, bytes, buffer);
@@ -145,7 +156,7 @@ impl Played {
         let connection = taken.connection;
         let len = taken.len;
         Played {
-            output: print_message(output, shown(buffer, len)),
+            output: print_message(rt, output, shown(buffer, len)),
             connection,
         }
     }
@@ -158,10 +169,10 @@ impl Played {
     }
 
     // Time passes, and what is due is handed over.
-    fn wait(self, tenths: u64, message: &[u8]) -> Played {
+    fn wait<R: Print + Eprint>(self, rt: &R, tenths: u64, message: &[u8]) -> Played {
         let c = self.connection;
         let passed = c.elapse(tenths);
-        self.with(passed.connection).hand_over(message)
+        self.with(passed.connection).hand_over(rt, message)
     }
 
     fn close(self) -> Played {
@@ -171,7 +182,7 @@ impl Played {
     }
 
     // Hands over the frame that is due, if one is, and prints it.
-    fn hand_over(self, message: &[u8]) -> Played {
+    fn hand_over<R: Print + Eprint>(self, rt: &R, message: &[u8]) -> Played {
         let output = self.output;
         let c = self.connection;
         let due = c.due(message);
@@ -181,33 +192,33 @@ impl Played {
             return Played { output, connection };
         }
         Played {
-            output: print_frame(output, frame),
+            output: print_frame(rt, output, frame),
             connection,
         }
     }
 }
 
 // A frame: its ID, and its data.
-fn print_frame(output: Output, frame: Frame) -> Output {
+fn print_frame<R: Print + Eprint>(rt: &R, output: Output, frame: Frame) -> Output {
     let payload = frame.payload;
     let data = payload.bytes;
     let mut id = [0; 3];
     let end = writing::id(&mut id, 0, frame.id);
-    print_line(output, shown(&id, end), shown(&data, payload.len))
+    print_line(rt, output, shown(&id, end), shown(&data, payload.len))
 }
 
 // No line for no message.
-fn print_message(output: Output, message: &[u8]) -> Output {
+fn print_message<R: Print + Eprint>(rt: &R, output: Output, message: &[u8]) -> Output {
     if message.len() == 0 {
         return output;
     }
-    print_line(output, b"message", message)
+    print_line(rt, output, b"message", message)
 }
 
-fn print_line(output: Output, name: &[u8], bytes: &[u8]) -> Output {
+fn print_line<R: Print + Eprint>(rt: &R, output: Output, name: &[u8], bytes: &[u8]) -> Output {
     let mut line = [0; 3080];
     let end = writing::bytes(&mut line, 0, name);
     let end = writing::pairs(&mut line, end, bytes);
     let end = writing::byte(&mut line, end, b'\n');
-    output.say(shown(&line, end))
+    output.say(rt, shown(&line, end))
 }

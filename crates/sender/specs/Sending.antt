@@ -1,6 +1,5 @@
 -- 01, "Sending": what an open channel's sending half does at each call.
-use Rattle.std.specs.Prelude.{ℕ, ◌+◌, ◌-◌, ◌%◌, max, Bool, not, ◌&&◌, List, [], length, ltb, leb, eqb}
-use Rattle.laws.specs.If.{if◌then◌else◌}
+use Rattle.std.specs.Prelude.{ℕ, ◌+◌, ◌-◌, ◌%◌, max, Bool, not, ◌&&◌, List, [], length, ltb, leb, eqb, if◌then◌else◌}
 use Rattle.telegram.specs.Outgoing.{payload_of}
 use Rattle.telegram.specs.Cutting.{frames_of, asks_at, frame_at}
 use Rattle.telegram.specs.declared.kinds.Telegram.{Telegram}

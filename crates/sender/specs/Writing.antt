@@ -1,6 +1,5 @@
 -- A message written to a peer that answers at once: offered, then each frame called for, answered, and T3 let pass.
-use Rattle.std.specs.Prelude.{ℕ, zero, suc, ◌+◌, ◌%◌, true, List, [], ◌∷◌, length}
-use Rattle.laws.specs.If.{if◌then◌else◌}
+use Rattle.std.specs.Prelude.{ℕ, zero, suc, ◌+◌, ◌%◌, true, List, [], ◌∷◌, length, if◌then◌else◌}
 use Rattle.telegram.specs.Outgoing.{bytes_of}
 use Rattle.telegram.specs.Cutting.{frames_of, asks_at}
 use Rattle.sender.specs.declared.Terms.{Terms}

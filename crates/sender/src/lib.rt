@@ -5,8 +5,7 @@
 // Where repeats are used up it says so and leaves itself as it was: the channel is lost then.
 #![tactic(auto)]
 
-ghost use Rattle.std.specs.Prelude.{◌≡◌, ◌<◌, max};
-ghost use Rattle.laws.specs.If.{if◌then◌else◌};
+ghost use Rattle.std.specs.Prelude.{◌≡◌, ◌<◌, max, if◌then◌else◌};
 ghost use Rattle.telegram.specs.Cutting.{longest};
 ghost use Rattle.sender.specs.Sending.{fresh, offered, on_ack, heard, passed, quiet, frame_due, first_number, advanced, no_frame, handed, unacknowledged};
 

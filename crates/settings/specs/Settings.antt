@@ -1,6 +1,5 @@
 -- 01, "The record and its calls": the settings, with default and range; 02, request 3: the default block size; 02, request 10: by the profile.
-use Rattle.std.specs.Prelude.{ℕ, ◌%◌, Bool, not, ◌&&◌, ◌||◌, leb, ltb, eqb}
-use Rattle.laws.specs.If.{if◌then◌else◌}
+use Rattle.std.specs.Prelude.{◌%◌, Bool, not, ◌&&◌, ◌||◌, leb, ltb, eqb, if◌then◌else◌}
 use Rattle.telegram.specs.Kinds.{bad_block}
 use Rattle.telegram.specs.Time.{tenths_of}
 use Rattle.profile.specs.Profile.{within, tp20}

@@ -3,15 +3,14 @@
 --     a8-class .. a1-class         "control all others but data": the A8 that ends the channel too
 --     formless-class .. one-byte   "Refused are badly formed telegrams"
 --     data-class                   data, by what the receiving rules of 01 make of it; "and answer 7" is refused
+use Rattle.std.specs.Prelude.{if◌then◌else◌}
 use Prim.Native.Nat.{ℕ, ◌+◌, ◌≤◌, ◌<◌}
-use native.Mathlib.Omega.{arith}
 use mathlib.Core.Bool.{Bool}
 use mathlib.Core.List.{List, [], ◌∷◌}
 use mathlib.Core.Logic.{◌≢◌}
 use mathlib.Core.Path.{◌≡◌, refl, ap, ◌∙◌}
 use lib.ListN.{length}
 use borrow.Author.Tests.{eq-eqb, ne_eqb}
-use Rattle.laws.specs.If.{if◌then◌else◌}
 use Rattle.laws.proofs.Cases.{by-lt}
 use Rattle.telegram.specs.Forms.{first_byte, Filled, Formed}
 use Rattle.telegram.specs.declared.kinds.Sorted.{Sorted}
@@ -21,7 +20,6 @@ use Rattle.receiver.specs.declared.Receipt.TheVariants.{Used as IsUsed, Complete
 use Rattle.receiver.proofs.Given.{Given, given-note}
 use Rattle.telegram.specs.declared.kinds.Telegram.TheVariants.{Data}
 use Rattle.follow.specs.Following.{receiver_of, fate_of, first_after, on_data, on_open, heard}
-use Rattle.follow.specs.declared.Fate.{Fate}
 use Rattle.follow.specs.declared.Follow.{Follow}
 use Rattle.follow.specs.declared.Heard.{Heard}
 use Rattle.follow.specs.declared.Side.{Side}

@@ -31,7 +31,7 @@ use Rattle.table.specs.declared.Table.{Table}
 use Rattle.table.specs.declared.Place.TheVariants.{Nowhere, At}
 use Rattle.table.specs.declared.Arrived.{Arrived}
 use Rattle.table.specs.declared.Answered.{Answered}
-use Rattle.table.specs.Table.{at, named, owner_of}
+use Rattle.table.specs.Table.{named, owner_of}
 use Rattle.table.specs.Calls.{arrives, buffers, elapses, hands, sends, takes, shows, closes}
 use Rattle.table.proofs.Found.{lowest-is, lowest-nowhere, owner-hears, owner-first}
 use Rattle.table.proofs.Rules.{record_at, Alone, alone}

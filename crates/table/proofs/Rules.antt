@@ -23,7 +23,7 @@ use Rattle.connection.proofs.Rules.{plain, opening-leaves}
 use Rattle.table.specs.declared.Table.{Table}
 use Rattle.table.specs.declared.Place.TheVariants.{Nowhere, At}
 use Rattle.table.specs.declared.Opened.{Opened}
-use Rattle.table.specs.Table.{at, with, free_of, uses_either, is_used, reserved}
+use Rattle.table.specs.Table.{with, free_of, uses_either, is_used, reserved}
 use Rattle.table.specs.Calls.{opens}
 use Rattle.table.proofs.Found.{free-closed, free-first, used-at, unused-at}
 

@@ -1,7 +1,6 @@
 -- 02, 7, "Several units at a time": what each call of a table answers and leaves.
-use Rattle.std.specs.Prelude.{ℕ, false, not, List, length, take, leb}
+use Rattle.std.specs.Prelude.{ℕ, false, not, List, length, take, leb, if◌then◌else◌}
 use Rattle.std.specs.Borrow.{Bor}
-use Rattle.laws.specs.If.{if◌then◌else◌}
 use Rattle.settings.specs.Settings.{allowed}
 use Rattle.settings.specs.declared.Settings.{Settings}
 use Rattle.channel.specs.declared.Answer.TheVariants.{NotDue}

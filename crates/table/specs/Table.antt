@@ -1,6 +1,5 @@
 -- 02, 7, "Several units at a time": the table, who owns an ID, and what is in use.
-use Rattle.std.specs.Prelude.{ℕ, zero, suc, ◌+◌, Bool, true, false, not, ◌&&◌, ◌||◌, get_or, set, replicate, ltb, leb, eqb}
-use Rattle.laws.specs.If.{if◌then◌else◌}
+use Rattle.std.specs.Prelude.{ℕ, zero, suc, ◌+◌, Bool, false, not, ◌&&◌, ◌||◌, get_or, set, replicate, ltb, leb, eqb, if◌then◌else◌}
 use Rattle.connection.specs.declared.Connection.{Connection}
 use Rattle.open_end.specs.OpenEnd.{unopened}
 use Rattle.connection.specs.Record.{phase_closed, is_closed, no_attempt, closed_record, hears}

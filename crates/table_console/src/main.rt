@@ -36,22 +36,28 @@ const OPEN: u64 = 0x6F70656E;
 
 const OWNER: u64 = 0x6F776E6572;
 
-fn main() {
+fn main(rt: HostRuntime) {
     // A line, one character too many, and a CR behind it; its answer takes its place.
     let mut text = [0; 16002];
     let mut bytes = [0; 8192];
     let mut buffers = [0; 32768];
     let mut messages = [0; 32768];
-    talk(&mut text, &mut bytes, &mut buffers, &mut messages);
+    talk(&rt, &mut text, &mut bytes, &mut buffers, &mut messages);
 }
 
 // Reads and answers until the input ends or an answer cannot be written. The count of turns is more than any run uses up.
-fn talk(text: &mut [u8], bytes: &mut [u8], buffers: &mut [u8], messages: &mut [u8]) {
+fn talk<R: Input + Print + Eprint>(
+    rt: &R,
+    text: &mut [u8],
+    bytes: &mut [u8],
+    buffers: &mut [u8],
+    messages: &mut [u8],
+) {
     let mut c = anew(Session::fresh());
     let mut turns = u64::MAX;
     while 0 < turns {
         turns -= 1;
-        c = c.turn(text, bytes, buffers, messages);
+        c = c.turn(rt, text, bytes, buffers, messages);
         let session = c.session;
         turns = session.turns_left(turns);
     }
@@ -109,24 +115,26 @@ impl Console {
     }
 
     // Reads a line and answers it; it is understood whole before anything is done.
-    fn turn(
+    fn turn<R: Input + Print + Eprint>(
         self,
+        rt: &R,
         text: &mut [u8],
         bytes: &mut [u8],
         buffers: &mut [u8],
         messages: &mut [u8],
     ) -> Console {
-        let line = read_line(text);
+        let line = read_line(rt, text);
         let fill = line.fill;
         let asked = read_asked(shown(text, fill), bytes);
         let session = self.session;
         self.with(session.next_line(line.ended))
-            .run(asked, fill, text, bytes, buffers, messages)
+            .run(rt, asked, fill, text, bytes, buffers, messages)
     }
 
     // Runs the call that a line of fill characters asks for.
-    fn run(
+    fn run<R: Print + Eprint>(
         self,
+        rt: &R,
         asked: Asked,
         fill: usize,
         text: &mut [u8],
@@ -140,80 +148,80 @@ impl Console {
         let call = asked.call;
         match call {
             Call::Nothing => self,
-            Call::Wrong => self.with(session.wrong(text)),
-            Call::New => self.renewed(buffers),
+            Call::Wrong => self.with(session.wrong(rt, text)),
+            Call::New => self.renewed(rt, buffers),
             Call::Frame { id, count } => {
-                self.arrived(self.arriving(id, shown(bytes, count), buffers), text)
+                self.arrived(rt, self.arriving(id, shown(bytes, count), buffers), text)
             }
-            Call::Time(tenths) => self.elapsed(asked.named, place, tenths, text),
+            Call::Time(tenths) => self.elapsed(rt, asked.named, place, tenths, text),
             Call::Due => {
                 let message = shown(part(messages, place), self.length(place) as usize);
-                self.handed(table.due(place, message), text)
+                self.handed(rt, table.due(place, message), text)
             }
-            Call::DueOf(count) => self.handed(table.due(place, shown(bytes, count)), text),
-            Call::Send(count) => self.sending(place, shown(bytes, count), messages, text),
+            Call::DueOf(count) => self.handed(rt, table.due(place, shown(bytes, count)), text),
+            Call::Send(count) => self.sending(rt, place, shown(bytes, count), messages, text),
             Call::Take => {
                 let step = table.take_step(place, self.room(place) as usize);
-                self.taken(step, part(buffers, place), text)
+                self.taken(rt, step, part(buffers, place), text)
             }
-            Call::Close => self.answered(table.close(place), text),
-            Call::Room(room) => self.lending(place, room, text),
-            Call::Buffer => self.showing(place, buffers, text),
-            Call::Other(name) => self.own(name, fill, text),
+            Call::Close => self.answered(rt, table.close(place), text),
+            Call::Room(room) => self.lending(rt, place, room, text),
+            Call::Buffer => self.showing(rt, place, buffers, text),
+            Call::Other(name) => self.own(rt, name, fill, text),
         }
     }
 
     // A call that a table alone has.
-    fn own(self, name: u64, fill: usize, text: &mut [u8]) -> Console {
+    fn own<R: Print + Eprint>(self, rt: &R, name: u64, fill: usize, text: &mut [u8]) -> Console {
         if name == OPEN {
             let opening = read_opening(behind_word(shown(text, fill)));
-            return self.opened(opening, text);
+            return self.opened(rt, opening, text);
         }
         if name == OWNER {
             let id = only_id(behind_word(shown(text, fill)));
-            return self.owned(id, text);
+            return self.owned(rt, id, text);
         }
         let session = self.session;
-        self.with(session.wrong(text))
+        self.with(session.wrong(rt, text))
     }
 
-    fn opened(self, opening: Opening, text: &mut [u8]) -> Console {
+    fn opened<R: Print + Eprint>(self, rt: &R, opening: Opening, text: &mut [u8]) -> Console {
         let table = self.table;
         let session = self.session;
         match opening {
-            Opening::Wrong => self.with(session.wrong(text)),
+            Opening::Wrong => self.with(session.wrong(rt, text)),
             Opening::With(settings) => {
                 let opened = table.open(settings);
                 let told = opened.told;
                 let place = opened.place;
                 let next = opened.table;
-                self.telling_at(next, Carried::marked(told.said, false), place, text)
+                self.telling_at(rt, next, Carried::marked(told.said, false), place, text)
             }
         }
     }
 
-    fn owned(self, id: Number, text: &mut [u8]) -> Console {
+    fn owned<R: Print + Eprint>(self, rt: &R, id: Number, text: &mut [u8]) -> Console {
         let session = self.session;
         match id {
-            Number::Value(n) => self.owner((n % 65536) as u16, text),
-            Number::TooLarge => self.with(session.wrong(text)),
-            Number::Bad => self.with(session.wrong(text)),
+            Number::Value(n) => self.owner(rt, (n % 65536) as u16, text),
+            Number::TooLarge => self.with(session.wrong(rt, text)),
+            Number::Bad => self.with(session.wrong(rt, text)),
         }
     }
 
-    fn owner(self, id: u16, text: &mut [u8]) -> Console {
+    fn owner<R: Print + Eprint>(self, rt: &R, id: u16, text: &mut [u8]) -> Console {
         let table = self.table;
         let session = self.session;
         match table.owner(id) {
-            Place::Nowhere => self.with(session.tell_owner(false, 0, text)),
-            Place::At(p) => self.with(session.tell_owner(true, p, text)),
+            Place::Nowhere => self.with(session.tell_owner(rt, false, 0, text)),
+            Place::At(p) => self.with(session.tell_owner(rt, true, p, text)),
         }
     }
 
-    fn renewed(self, buffers: &mut [u8]) -> Console {
+    fn renewed<R: Print + Eprint>(self, rt: &R, buffers: &mut [u8]) -> Console {
         clear(buffers);
         let session = self.session;
-        anew(session.renew())
+        anew(session.renew(rt))
     }
 
     // A frame arrives, the room of its owner's buffer being lent.
@@ -226,15 +234,22 @@ impl Console {
     }
 
     // Time passes at one place, or at each.
-    fn elapsed(self, named: bool, place: u8, tenths: u64, text: &mut [u8]) -> Console {
+    fn elapsed<R: Print + Eprint>(
+        self,
+        rt: &R,
+        named: bool,
+        place: u8,
+        tenths: u64,
+        text: &mut [u8],
+    ) -> Console {
         let table = self.table;
         if named {
-            return self.answered(table.elapse(place, tenths), text);
+            return self.answered(rt, table.elapse(place, tenths), text);
         }
-        self.each_elapsed(tenths, text)
+        self.each_elapsed(rt, tenths, text)
     }
 
-    fn each_elapsed(self, tenths: u64, text: &mut [u8]) -> Console {
+    fn each_elapsed<R: Print + Eprint>(self, rt: &R, tenths: u64, text: &mut [u8]) -> Console {
         let session = self.session;
         let mut table = self.table;
         let nothing = Said {
@@ -253,20 +268,27 @@ impl Console {
             table = next;
             p += 1;
         }
-        self.leaving(table, session.tell_each(said, text))
+        self.leaving(table, session.tell_each(rt, said, text))
     }
 
     // A message that is accepted is kept, to be lent from now on.
-    fn sending(self, place: u8, bytes: &[u8], messages: &mut [u8], text: &mut [u8]) -> Console {
+    fn sending<R: Print + Eprint>(
+        self,
+        rt: &R,
+        place: u8,
+        bytes: &[u8],
+        messages: &mut [u8],
+        text: &mut [u8],
+    ) -> Console {
         let table = self.table;
         let sent = table.send(place, bytes);
         let told = sent.told;
         let said = told.said;
         if said.number != 0 {
-            return self.answered(sent, text);
+            return self.answered(rt, sent, text);
         }
         writing::bytes(messages, place as usize * PART, bytes);
-        self.keeping(place, bytes.len()).answered(sent, text)
+        self.keeping(place, bytes.len()).answered(rt, sent, text)
     }
 
     fn keeping(mut self, place: u8, length: usize) -> Console {
@@ -280,45 +302,58 @@ impl Console {
         self
     }
 
-    fn lending(mut self, place: u8, room: usize, text: &mut [u8]) -> Console {
+    fn lending<R: Print + Eprint>(
+        mut self,
+        rt: &R,
+        place: u8,
+        room: usize,
+        text: &mut [u8],
+    ) -> Console {
         let p = place as usize;
         if PLACES <= p {
-            return self.nowhere(text);
+            return self.nowhere(rt, text);
         }
         let session = self.session;
         let mut rooms = self.rooms;
         rooms[p] = (room % 65536) as u16;
         self.rooms = rooms;
-        self.with(session.grant())
+        self.with(session.grant(rt))
     }
 
-    fn showing(self, place: u8, buffers: &[u8], text: &mut [u8]) -> Console {
+    fn showing<R: Print + Eprint>(
+        self,
+        rt: &R,
+        place: u8,
+        buffers: &[u8],
+        text: &mut [u8],
+    ) -> Console {
         if PLACES <= place as usize {
-            return self.nowhere(text);
+            return self.nowhere(rt, text);
         }
         let session = self.session;
         let room = self.room(place) as usize;
-        self.with(session.show(shown(part(buffers, place), room), text))
+        self.with(session.show(rt, shown(part(buffers, place), room), text))
     }
 
     // Answers a call that names no place of the table, and asks for what the table does not keep.
-    fn nowhere(self, text: &mut [u8]) -> Console {
+    fn nowhere<R: Print + Eprint>(self, rt: &R, text: &mut [u8]) -> Console {
         let table = self.table;
         let told = tell(Answer::Channel(NotDue));
-        self.telling(table, Carried::marked(told.said, false), &[], text)
+        self.telling(rt, table, Carried::marked(told.said, false), &[], text)
     }
 
-    fn answered(self, answered: Answered, text: &mut [u8]) -> Console {
+    fn answered<R: Print + Eprint>(self, rt: &R, answered: Answered, text: &mut [u8]) -> Console {
         let told = answered.told;
         let next = answered.table;
-        self.telling(next, Carried::marked(told.said, false), &[], text)
+        self.telling(rt, next, Carried::marked(told.said, false), &[], text)
     }
 
-    fn arrived(self, arrived: Arrived, text: &mut [u8]) -> Console {
+    fn arrived<R: Print + Eprint>(self, rt: &R, arrived: Arrived, text: &mut [u8]) -> Console {
         let told = arrived.told;
         let place = arrived.place;
         let next = arrived.table;
         self.telling_at(
+            rt,
             next,
             Carried::marked(told.said, arrived.padded),
             place,
@@ -326,11 +361,12 @@ impl Console {
         )
     }
 
-    fn handed(self, due: Due, text: &mut [u8]) -> Console {
+    fn handed<R: Print + Eprint>(self, rt: &R, due: Due, text: &mut [u8]) -> Console {
         let told = due.told;
         let frame = due.frame;
         let next = due.table;
         self.telling(
+            rt,
             next,
             Carried::handing(told.said, due.given, frame),
             &[],
@@ -338,11 +374,18 @@ impl Console {
         )
     }
 
-    fn taken(self, taken: TakeStep, buffer: &[u8], text: &mut [u8]) -> Console {
+    fn taken<R: Print + Eprint>(
+        self,
+        rt: &R,
+        taken: TakeStep,
+        buffer: &[u8],
+        text: &mut [u8],
+    ) -> Console {
         let told = taken.told;
         let next = taken.table;
         let len = taken.len;
         self.telling(
+            rt,
             next,
             Carried::showing(told.said, taken.flags),
             shown(buffer, len),
@@ -351,17 +394,31 @@ impl Console {
     }
 
     // Says an answer, and goes on with the table that it leaves.
-    fn telling(self, next: Table, carried: Carried, message: &[u8], text: &mut [u8]) -> Console {
+    fn telling<R: Print + Eprint>(
+        self,
+        rt: &R,
+        next: Table,
+        carried: Carried,
+        message: &[u8],
+        text: &mut [u8],
+    ) -> Console {
         let session = self.session;
-        self.leaving(next, session.tell(carried, message, text))
+        self.leaving(next, session.tell(rt, carried, message, text))
     }
 
     // The same, with the place that the call came to, if it came to one.
-    fn telling_at(self, next: Table, carried: Carried, place: Place, text: &mut [u8]) -> Console {
+    fn telling_at<R: Print + Eprint>(
+        self,
+        rt: &R,
+        next: Table,
+        carried: Carried,
+        place: Place,
+        text: &mut [u8],
+    ) -> Console {
         let session = self.session;
         match place {
-            Place::Nowhere => self.telling(next, carried, &[], text),
-            Place::At(p) => self.leaving(next, session.tell_at(carried, p, text)),
+            Place::Nowhere => self.telling(rt, next, carried, &[], text),
+            Place::At(p) => self.leaving(next, session.tell_at(rt, carried, p, text)),
         }
     }
 }

@@ -9,7 +9,7 @@ use Rattle.profile.specs.Profile.{within}
 use Rattle.settings.specs.Settings.{allowed_by}
 use Rattle.settings.specs.declared.Settings.{Settings}
 use Rattle.connection.specs.Calls.{opening_as}
-use Rattle.table.specs.declared.Place.TheVariants.{Nowhere, At}
+use Rattle.table.specs.declared.Place.TheVariants.{At}
 use Rattle.table.specs.Table.{places, empty, free_of, is_used, uses_either, reserved}
 use Rattle.table.specs.Calls.{opens}
 use Rattle.table_runs.specs.Runs.{Call, run}

@@ -1,12 +1,11 @@
 -- What a place meets: all that goes to the others is called, and while it is open it owns its receive ID.
-use Prim.Native.Nat.{ℕ, ◌<◌}
-use mathlib.Core.Bool.{true}
+use Prim.Native.Nat.{ℕ}
 use mathlib.Core.List.{List, [], ◌∷◌, ◌++◌}
 use mathlib.Core.Path.{◌≡◌, refl, sym, ◌∙◌, ap}
 use borrow.Author.Tests.{ne_eqb}
-use Rattle.table.specs.Table.{places, empty, owner_of}
+use Rattle.table.specs.Table.{empty}
 use Rattle.table_runs.specs.Runs.{Call, run, goes_to}
-use Rattle.table_delivery.specs.Ends.{Past, meanwhile, after_others, readied, AllElsewhere, Meets, PlacesMeet}
+use Rattle.table_delivery.specs.Ends.{meanwhile, after_others, AllElsewhere, Meets, PlacesMeet}
 use Rattle.table_delivery.proofs.Places.{owned}
 use Rattle.table_delivery.proofs.Lawful.{open-hears}
 

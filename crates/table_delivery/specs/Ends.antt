@@ -1,7 +1,6 @@
 -- 02, 7, "Demand 3 holds for each connection": a place of a table as an end of `delivery`, each call by the very definition of its contract
 -- (but for a frame that this place does not own, at `heard`), while any calls go to the other places in between. proofs/Demand3.antt proves what is claimed.
-use Rattle.std.specs.Prelude.{ℕ, ◌≤◌, ◌<◌, true, List, [], ◌∷◌, ◌++◌, ◌≢◌, ◌≡◌, eqb}
-use Rattle.laws.specs.If.{if◌then◌else◌}
+use Rattle.std.specs.Prelude.{ℕ, ◌≤◌, ◌<◌, true, List, [], ◌∷◌, ◌++◌, ◌≢◌, ◌≡◌, eqb, if◌then◌else◌}
 use Rattle.telegram.specs.Outgoing.{bytes_of}
 use Rattle.channel.specs.declared.Answer.TheVariants.{NotDue}
 use Rattle.open_end.specs.declared.answers.Answer.TheVariants.{Channel}

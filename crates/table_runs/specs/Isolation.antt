@@ -1,7 +1,6 @@
 -- 02, 7: isolation, sentence by sentence. Two runs from an empty table, side by side. proofs/Isolation.antt proves it.
-use Rattle.std.specs.Prelude.{ℕ, ◌≤◌, ◌<◌, Bool, true, false, ◌≡◌, ◌≢◌, ◌⊎◌, List, [], ◌∷◌, eqb, length, get_or, set, replicate, take as front}
+use Rattle.std.specs.Prelude.{ℕ, ◌≤◌, ◌<◌, Bool, false, ◌≡◌, ◌≢◌, ◌⊎◌, List, [], ◌∷◌, eqb, length, get_or, set, replicate, take as front, if◌then◌else◌}
 use Rattle.std.proofs.Math.Option.{Option, none, some}
-use Rattle.laws.specs.If.{if◌then◌else◌}
 use Rattle.settings.specs.declared.Settings.{Settings}
 use Rattle.open_end.specs.declared.answers.Told.{Told}
 use Rattle.open_end.specs.declared.Frame.{Frame}

@@ -1,5 +1,5 @@
 -- 02, 7: lists of calls to a table, and what holds after every list from the empty one. proofs/Runs.antt proves it.
-use Rattle.std.specs.Prelude.{ℕ, ◌≤◌, ◌<◌, Bool, true, false, ◌≡◌, ◌≢◌, List, [], ◌∷◌, length}
+use Rattle.std.specs.Prelude.{ℕ, ◌≤◌, ◌<◌, true, false, ◌≡◌, ◌≢◌, List, [], ◌∷◌, length}
 use Rattle.profile.specs.Profile.{tp20}
 use Rattle.settings.specs.declared.Settings.{Settings}
 use Rattle.connection.specs.declared.Connection.{Connection}

@@ -2,6 +2,7 @@
 --     taken                           for any reader
 --     own-sorted, filled-sorted    a control telegram at its own length, and with any content up to 8 bytes
 --     sorts                           for telegrams
+use Rattle.std.specs.Prelude.{if◌then◌else◌}
 use Prim.Native.Nat.{ℕ, ◌+◌, ◌*◌, ◌/◌, ◌%◌, ◌≤◌}
 use native.Mathlib.Nat.{mod-lt, mod-eq_of_lt, div-add-mod}
 use native.Mathlib.Omega.{arith}
@@ -12,7 +13,6 @@ use mathlib.Core.Path.{◌≡◌, refl, sym, ap, subst, ◌∙◌}
 use lib.Dec.{leb, eqb}
 use lib.ListN.{length, drop, get_or, length-append, length-drop}
 use borrow.Author.Tests.{leb-true, eqb-true, eqb-false}
-use Rattle.laws.specs.If.{if◌then◌else◌}
 use Rattle.laws.proofs.Cases.{by, either, and_first, and_second}
 use Rattle.telegram.specs.Kinds.{kind_of, own_or_filled, fillable, sorted, fields, bit4, bit5}
 use Rattle.telegram.specs.Forms.{Taken, formed, formless, first_byte, Fillable, ack, test, break, disconnect, accept, Filled, bare, filled, Form, as-data, as-fillable, as-setup, Formed, malformed}

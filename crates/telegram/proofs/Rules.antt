@@ -1,4 +1,5 @@
 -- The rules of 01 in numbers and bytes: what the writers put on the bus, the cutting, the limits, the time codes.
+use Rattle.std.specs.Prelude.{if◌then◌else◌}
 use Prim.Native.Nat.{ℕ, ◌+◌, ◌-◌, ◌*◌, ◌/◌, ◌%◌, ◌^◌, ◌≤◌, ◌<◌}
 use native.Mathlib.Nat.{mod-eq_of_lt, div-add-mod', mul-mod_left, add-zero}
 use native.Mathlib.Omega.{arith}
@@ -9,7 +10,6 @@ use mathlib.Core.Path.{◌≡◌, refl, sym, ap, subst, ◌∙◌}
 use lib.Dec.{ltb, eqb}
 use lib.ListN.{length, take, drop, get_or, replicate}
 use borrow.Author.Tests.{eqb-true, eq-eqb, ltb-false, le-ltb, ne_eqb, eqb-false}
-use Rattle.laws.specs.If.{if◌then◌else◌}
 use Rattle.laws.proofs.Cases.{or-first, or-second}
 use Rattle.telegram.specs.Time.{tenths_of}
 use Rattle.telegram.specs.Outgoing.{payload_of, bytes_of}

@@ -1,6 +1,5 @@
 -- 01, "Cutting": the data telegrams that carry a message.
-use Rattle.std.specs.Prelude.{ℕ, ◌+◌, ◌*◌, ◌/◌, ◌%◌, Bool, true, false, ◌||◌, List, [], ◌∷◌, length, take, drop, eqb}
-use Rattle.laws.specs.If.{if◌then◌else◌}
+use Rattle.std.specs.Prelude.{ℕ, ◌+◌, ◌*◌, ◌/◌, ◌%◌, Bool, true, false, ◌||◌, List, [], ◌∷◌, length, take, drop, eqb, if◌then◌else◌}
 use Rattle.telegram.specs.Outgoing.{payload_of}
 use Rattle.telegram.specs.declared.cutting.Message.{Message}
 use Rattle.telegram.specs.declared.payload.Payload.{Payload}

@@ -1,6 +1,5 @@
 -- 01, "Telegrams on an open connection": the kinds, and how a telegram is sorted and written.
-use Rattle.std.specs.Prelude.{ℕ, ◌+◌, ◌/◌, ◌%◌, Bool, true, false, ◌&&◌, ◌||◌, List, [], ◌∷◌, length, get_or, leb, ltb, eqb}
-use Rattle.laws.specs.If.{if◌then◌else◌}
+use Rattle.std.specs.Prelude.{ℕ, ◌+◌, ◌/◌, ◌%◌, Bool, true, false, ◌&&◌, ◌||◌, List, [], ◌∷◌, length, get_or, leb, ltb, eqb, if◌then◌else◌}
 use Rattle.telegram.specs.Outgoing.{payload_of}
 use Rattle.telegram.specs.declared.payload.Payload.{Payload}
 use Rattle.telegram.specs.declared.kinds.Parameters.{Parameters}

@@ -1,6 +1,5 @@
 // Cutting: a message as the data telegrams that carry it, one telegram a call.
-ghost use Rattle.std.specs.Prelude.{◌≡◌, ◌+◌, ◌-◌, ◌*◌, min, max, ◌∷◌, ltb, length, take, drop, get_or};
-ghost use Rattle.laws.specs.If.{if◌then◌else◌};
+ghost use Rattle.std.specs.Prelude.{◌≡◌, ◌+◌, ◌-◌, ◌*◌, min, max, ◌∷◌, ltb, length, take, drop, get_or, if◌then◌else◌};
 ghost use Rattle.telegram.specs.Outgoing.{payload_of};
 ghost use Rattle.telegram.specs.Cutting.{frames_of, stream_of, header_of, asks_at, frame_at, declared_of, longest};
 

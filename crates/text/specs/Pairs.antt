@@ -1,6 +1,5 @@
 -- Bytes as pairs of hexadecimal digits, with or without blanks between the pairs.
-use Rattle.std.specs.Prelude.{ℕ, ◌+◌, ◌*◌, ◌%◌, Bool, ◌&&◌, List, [], ◌∷◌, length, set, leb}
-use Rattle.laws.specs.If.{if◌then◌else◌}
+use Rattle.std.specs.Prelude.{ℕ, ◌+◌, ◌*◌, ◌%◌, Bool, ◌&&◌, List, [], ◌∷◌, length, set, leb, if◌then◌else◌}
 use Rattle.text.specs.Numbers.{digit_of, is_digit}
 use Rattle.text.specs.Words.{is_blank}
 use Rattle.text.specs.declared.reading.Bytes.{Bytes}

@@ -1,6 +1,5 @@
 -- Words of a line, and the blanks between them.
-use Rattle.std.specs.Prelude.{ℕ, suc, ◌+◌, Bool, true, false, not, List, [], ◌∷◌, drop, eqb}
-use Rattle.laws.specs.If.{if◌then◌else◌}
+use Rattle.std.specs.Prelude.{ℕ, suc, ◌+◌, Bool, true, false, not, List, [], ◌∷◌, drop, eqb, if◌then◌else◌}
 use Rattle.text.specs.declared.reading.Span.{Span}
 
 -- a blank is the space character, and no other

@@ -1,7 +1,6 @@
 -- What is written into a lent text from a place on.
-use Rattle.std.specs.Prelude.{ℕ, zero, suc, ◌+◌, ◌-◌, ◌/◌, ◌%◌, min, Bool, List, [], ◌∷◌, ◌++◌, ◌≡◌, eqb, ltb, length}
+use Rattle.std.specs.Prelude.{ℕ, zero, suc, ◌+◌, ◌-◌, ◌/◌, ◌%◌, min, Bool, List, [], ◌∷◌, ◌++◌, ◌≡◌, eqb, ltb, length, if◌then◌else◌}
 use Rattle.std.proofs.lemmas.List.Edits.{sets}
-use Rattle.laws.specs.If.{if◌then◌else◌}
 
 -- the place behind n characters that are written from a place on, where there is room for so many in all
 abbrev pub place_after : ℕ → ℕ → ℕ → ℕ

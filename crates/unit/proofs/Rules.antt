@@ -1,7 +1,6 @@
 -- The rules of a control unit in other words: phases as numbers, frames as bytes, and whole records field by field, none through the definitions that they speak of.
 -- Here: settings, closed units, and what no unit does before its A1 is out.
 use Prim.Native.Nat.{ℕ, ◌<◌, ◌≤◌}
-use native.Mathlib.Omega.{arith}
 use mathlib.Core.Bool.{true, false, not, ◌&&◌, ◌||◌}
 use mathlib.Core.List.{List, [], ◌∷◌}
 use mathlib.Core.Logic.{◌≢◌, ◌⊎◌, inl, inr, ◌↔◌}

@@ -1,7 +1,6 @@
 -- 02, request 5, "The car's side for the bench": what each call answers and leaves. Rows 3, 4 and 8 of 01 are amended for this side.
-use Rattle.std.specs.Prelude.{ℕ, ◌+◌, Bool, true, false, not, ◌||◌, List, length, take, eqb}
+use Rattle.std.specs.Prelude.{ℕ, ◌+◌, Bool, true, false, not, ◌||◌, List, length, take, eqb, if◌then◌else◌}
 use Rattle.std.specs.Borrow.{Bor}
-use Rattle.laws.specs.If.{if◌then◌else◌}
 use Rattle.opening.specs.Opening.{request_id, request_read, reply_of}
 use Rattle.opening.specs.declared.Request.{Request}
 use Rattle.opening.specs.declared.Request.TheVariants.{Open, Malformed as NoRequest}

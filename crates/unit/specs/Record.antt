@@ -1,6 +1,5 @@
 -- 02, request 5, "The car's side for the bench": the record of the side that is asked, and what it stands at.
-use Rattle.std.specs.Prelude.{ℕ, Bool, not, ◌&&◌, ◌||◌, ltb, eqb}
-use Rattle.laws.specs.If.{if◌then◌else◌}
+use Rattle.std.specs.Prelude.{ℕ, Bool, not, ◌&&◌, ◌||◌, ltb, eqb, if◌then◌else◌}
 use Rattle.telegram.specs.declared.kinds.Parameters.{Parameters as Fields}
 use Rattle.opening.specs.Opening.{request_id, refusal}
 use Rattle.settings.specs.Settings.{defaults, allowed}

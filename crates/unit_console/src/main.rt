@@ -31,22 +31,28 @@ enum Own {
 // Its name, as the number that the letters make.
 const SET: u64 = 0x736574;
 
-fn main() {
+fn main(rt: HostRuntime) {
     // A line, one character too many, and a CR behind it; its answer takes its place.
     let mut text = [0; 16002];
     let mut bytes = [0; 8192];
     let mut buffer = [0; 4096];
     let mut message = [0; 4096];
-    talk(&mut text, &mut bytes, &mut buffer, &mut message);
+    talk(&rt, &mut text, &mut bytes, &mut buffer, &mut message);
 }
 
 // Reads and answers until the input ends or an answer cannot be written. The count of turns is more than any run uses up.
-fn talk(text: &mut [u8], bytes: &mut [u8], buffer: &mut [u8], message: &mut [u8]) {
+fn talk<R: Input + Print + Eprint>(
+    rt: &R,
+    text: &mut [u8],
+    bytes: &mut [u8],
+    buffer: &mut [u8],
+    message: &mut [u8],
+) {
     let mut c = fresh();
     let mut turns = u64::MAX;
     while 0 < turns {
         turns -= 1;
-        c = c.turn(text, bytes, buffer, message);
+        c = c.turn(rt, text, bytes, buffer, message);
         let session = c.session;
         turns = session.turns_left(turns);
     }
@@ -67,24 +73,26 @@ impl Console {
     }
 
     // Reads a line and answers it; it is understood whole before anything is done.
-    fn turn(
+    fn turn<R: Input + Print + Eprint>(
         self,
+        rt: &R,
         text: &mut [u8],
         bytes: &mut [u8],
         buffer: &mut [u8],
         message: &mut [u8],
     ) -> Console {
-        let line = read_line(text);
+        let line = read_line(rt, text);
         let fill = line.fill;
         let call = read_call(shown(text, fill), bytes);
         let session = self.session;
         self.with(session.next_line(line.ended))
-            .run(call, fill, text, bytes, buffer, message)
+            .run(rt, call, fill, text, bytes, buffer, message)
     }
 
     // Runs the call that a line of fill characters asks for.
-    fn run(
+    fn run<R: Print + Eprint>(
         self,
+        rt: &R,
         call: Call,
         fill: usize,
         text: &mut [u8],
@@ -97,71 +105,88 @@ impl Console {
         let room = session.room;
         match call {
             Call::Nothing => self,
-            Call::Wrong => self.with(session.wrong(text)),
-            Call::New => self.renewed(buffer),
+            Call::Wrong => self.with(session.wrong(rt, text)),
+            Call::New => self.renewed(rt, buffer),
             Call::Frame { id, count } => {
-                self.arrived(arrive(unit, id, shown(bytes, count), buffer, room), text)
+                self.arrived(
+                    rt,
+                    arrive(unit, id, shown(bytes, count), buffer, room),
+                    text,
+                )
             }
-            Call::Time(tenths) => self.answered(unit.elapse(tenths), text),
-            Call::Due => self.handed(unit.due(shown(message, session.length)), text),
-            Call::DueOf(count) => self.handed(unit.due(shown(bytes, count)), text),
-            Call::Send(count) => self.sending(shown(bytes, count), message, text),
-            Call::Take => self.taken(unit.take_step(room), buffer, text),
-            Call::Close => self.answered(unit.close(), text),
-            Call::Room(room) => self.with(session.lend(room)),
-            Call::Buffer => self.with(session.show(shown(buffer, room), text)),
-            Call::Other(name) => self.own(read_own(name, behind_word(shown(text, fill))), text),
+            Call::Time(tenths) => self.answered(rt, unit.elapse(tenths), text),
+            Call::Due => self.handed(rt, unit.due(shown(message, session.length)), text),
+            Call::DueOf(count) => self.handed(rt, unit.due(shown(bytes, count)), text),
+            Call::Send(count) => self.sending(rt, shown(bytes, count), message, text),
+            Call::Take => self.taken(rt, unit.take_step(room), buffer, text),
+            Call::Close => self.answered(rt, unit.close(), text),
+            Call::Room(room) => self.with(session.lend(rt, room)),
+            Call::Buffer => self.with(session.show(rt, shown(buffer, room), text)),
+            Call::Other(name) => self.own(rt, read_own(name, behind_word(shown(text, fill))), text),
         }
     }
 
-    fn own(self, own: Own, text: &mut [u8]) -> Console {
+    fn own<R: Print + Eprint>(self, rt: &R, own: Own, text: &mut [u8]) -> Console {
         let unit = self.unit;
         let session = self.session;
         match own {
-            Own::Wrong => self.with(session.wrong(text)),
-            Own::Set { settings, reply } => self.answered(unit.set(settings, reply), text),
+            Own::Wrong => self.with(session.wrong(rt, text)),
+            Own::Set { settings, reply } => self.answered(rt, unit.set(settings, reply), text),
         }
     }
 
-    fn renewed(self, buffer: &mut [u8]) -> Console {
+    fn renewed<R: Print + Eprint>(self, rt: &R, buffer: &mut [u8]) -> Console {
         clear(buffer);
         let session = self.session;
         Console {
             unit: ControlUnit::closed(),
-            session: session.renew(),
+            session: session.renew(rt),
         }
     }
 
     // A message that is accepted is kept, to be lent from now on.
-    fn sending(self, bytes: &[u8], message: &mut [u8], text: &mut [u8]) -> Console {
+    fn sending<R: Print + Eprint>(
+        self,
+        rt: &R,
+        bytes: &[u8],
+        message: &mut [u8],
+        text: &mut [u8],
+    ) -> Console {
         let unit = self.unit;
         let session = self.session;
         let sent = unit.send(bytes);
         let said = sent.told.said;
         if said.number != 0 {
-            return self.answered(sent, text);
+            return self.answered(rt, sent, text);
         }
         let length = writing::bytes(message, 0, bytes);
-        self.with(session.keep(length)).answered(sent, text)
+        self.with(session.keep(length)).answered(rt, sent, text)
     }
 
-    fn answered(self, answered: Answered, text: &mut [u8]) -> Console {
+    fn answered<R: Print + Eprint>(self, rt: &R, answered: Answered, text: &mut [u8]) -> Console {
         let told = answered.told;
         let next = answered.unit;
-        self.telling(next, Carried::marked(told.said, false), &[], text)
+        self.telling(rt, next, Carried::marked(told.said, false), &[], text)
     }
 
-    fn arrived(self, arrived: Arrived, text: &mut [u8]) -> Console {
+    fn arrived<R: Print + Eprint>(self, rt: &R, arrived: Arrived, text: &mut [u8]) -> Console {
         let told = arrived.told;
         let next = arrived.unit;
-        self.telling(next, Carried::marked(told.said, arrived.padded), &[], text)
+        self.telling(
+            rt,
+            next,
+            Carried::marked(told.said, arrived.padded),
+            &[],
+            text,
+        )
     }
 
-    fn handed(self, due: Due, text: &mut [u8]) -> Console {
+    fn handed<R: Print + Eprint>(self, rt: &R, due: Due, text: &mut [u8]) -> Console {
         let told = due.told;
         let frame = due.frame;
         let next = due.unit;
         self.telling(
+            rt,
             next,
             Carried::handing(told.said, due.given, frame),
             &[],
@@ -169,11 +194,18 @@ impl Console {
         )
     }
 
-    fn taken(self, taken: TakeStep, buffer: &[u8], text: &mut [u8]) -> Console {
+    fn taken<R: Print + Eprint>(
+        self,
+        rt: &R,
+        taken: TakeStep,
+        buffer: &[u8],
+        text: &mut [u8],
+    ) -> Console {
         let told = taken.told;
         let next = taken.unit;
         let len = taken.len;
         self.telling(
+            rt,
             next,
             Carried::showing(told.said, taken.flags),
             shown(buffer, len),
@@ -182,8 +214,9 @@ impl Console {
     }
 
     // Says an answer, and goes on with the unit that it leaves.
-    fn telling(
+    fn telling<R: Print + Eprint>(
         self,
+        rt: &R,
         next: ControlUnit,
         carried: Carried,
         message: &[u8],
@@ -192,7 +225,7 @@ impl Console {
         let session = self.session;
         Console {
             unit: next,
-            session: session.tell(carried, message, text),
+            session: session.tell(rt, carried, message, text),
         }
     }
 }

@@ -1,4 +1,5 @@
 -- Every call keeps the stage of an opening or leads to the next one, and each stage's own turn does that.
+use Rattle.std.specs.Prelude.{if◌then◌else◌}
 use Prim.Native.Nat.{ℕ, ◌+◌, ◌-◌, ◌<◌}
 use native.Mathlib.Omega.{arith}
 use mathlib.Core.Bool.{Bool, true, false, cond}
@@ -7,7 +8,6 @@ use mathlib.Core.Logic.{◌≢◌, inl}
 use mathlib.Core.Path.{◌≡◌, refl, subst}
 use lib.ListN.{length, drop}
 use borrow.Author.Tests.{ltb-false}
-use Rattle.laws.specs.If.{if◌then◌else◌}
 use Rattle.laws.proofs.Branches.{and-off'}
 use Rattle.telegram.specs.Outgoing.{bytes_of}
 use Rattle.opening.specs.Opening.{request_id, reply_of}

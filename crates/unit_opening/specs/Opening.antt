@@ -1,7 +1,6 @@
 -- 02, request 5: "Show that an active end and this one .. always end opening with the same block size and each other's IDs, or with the same refusal opcode".
 -- The two are a system of `delivery`: near is the active end, a connection record, and far the control unit.
-use Rattle.std.specs.Prelude.{ℕ, min, ◌<◌, ◌≤◌, true, false, not, ◌&&◌, List, [], ◌∷◌, ◌++◌, ◌⊎◌, ◌≢◌, ◌≡◌, length, get_or, eqb}
-use Rattle.laws.specs.If.{if◌then◌else◌}
+use Rattle.std.specs.Prelude.{ℕ, min, ◌<◌, ◌≤◌, true, false, not, ◌&&◌, List, [], ◌∷◌, ◌++◌, ◌⊎◌, ◌≢◌, ◌≡◌, length, get_or, eqb, if◌then◌else◌}
 use Rattle.telegram.specs.Outgoing.{bytes_of}
 use Rattle.opening.specs.Opening.{refusal}
 use Rattle.settings.specs.declared.Settings.{Settings}

@@ -1,6 +1,7 @@
 -- For each call: a number is said exactly where a row of it holds and none before it in the call's table does; and what the call
 -- leaves with it, where all rows of that number leave the same. Then what holds of every answer to a frame.
 -- The tables stand in specs/Rows.antt, `Says` and `Given` in crates/open_rows/specs/Tables.antt.
+use Rattle.std.specs.Prelude.{if◌then◌else◌}
 use Prim.Native.Nat.{ℕ}
 use mathlib.Core.Bool.{Bool, true, false, not, ◌&&◌, ◌||◌, true≢false, false≢true}
 use mathlib.Core.List.{List}
@@ -9,7 +10,7 @@ use mathlib.Core.Path.{◌≡◌, refl, sym, ap, ◌∙◌}
 use native.Mathlib.Omega.{arith}
 use lib.Dec.{ltb, eqb}
 use borrow.Author.Tests.{ltb-true, ltb-false, le-ltb, eqb-false, ne_eqb, not-true}
-use Rattle.laws.specs.If.{if◌then◌else◌}
+use Rattle.laws.specs.If.{when◌then◌else◌}
 use Rattle.laws.proofs.Cases.{by, either, and_first, and_second, or-first, or-second}
 use Rattle.telegram.specs.declared.cutting.Message.{Message}
 use Rattle.settings.specs.declared.Settings.{Settings}
@@ -81,7 +82,7 @@ module _ (limit : ℕ) (c : ControlUnit) (id : ℕ) (s b : List ℕ) where
   pub arrive-keeps-buffer : (arrive_says limit c id s b).0.number ≢ 0 → (arrive_says limit c id s b).1.2 ≡ b
   arrive-keeps-buffer refuses =
       rw (ne_eqb _ _ refuses) at
-      (every (arrival_table limit c id s b) (arrive-told limit c id s b) (λ a x. if eqb a.number 0 then Unit else x.2 ≡ b)
+      (every (arrival_table limit c id s b) (arrive-told limit c id s b) (λ a x. when eqb a.number 0 then Unit else x.2 ≡ b)
       (refl, (refl, (refl, (tt, (refl, (refl, (refl, (refl, (refl, (refl, (refl, (refl, (refl, (refl, (refl, (refl, tt)))))))))))))))))
 
   -- no row is of a reply

@@ -1,6 +1,5 @@
 -- The records of a control unit, field by field: closed, asked and about to open, and what it is to change one part of one.
-use Rattle.std.specs.Prelude.{ℕ, Bool, true, ltb, eqb}
-use Rattle.laws.specs.If.{if◌then◌else◌}
+use Rattle.std.specs.Prelude.{ℕ, Bool, true, ltb, eqb, if◌then◌else◌}
 use Rattle.settings.specs.declared.Settings.{Settings}
 use Rattle.channel.specs.declared.Channel.{Channel}
 use Rattle.open_end.specs.declared.OpenEnd.{OpenEnd}

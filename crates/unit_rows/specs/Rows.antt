@@ -1,8 +1,7 @@
 -- 02, request 5, "The car's side for the bench", with 01, "Numbers we answer with": each call's rows in their order. What they ask
 -- and what they leave is written from the record's fields, numbers and bytes, apart from the definitions that the promises cite: of
 -- those only the calls are named here. What belongs to an open channel stands in crates/open_rows.
-use Rattle.std.specs.Prelude.{ℕ, ◌+◌, ◌/◌, ◌%◌, Bool, false, not, ◌&&◌, ◌||◌, List, [], ◌∷◌, length, get_or, ltb, leb, eqb}
-use Rattle.laws.specs.If.{if◌then◌else◌}
+use Rattle.std.specs.Prelude.{ℕ, ◌+◌, ◌/◌, ◌%◌, Bool, false, not, ◌&&◌, ◌||◌, List, [], ◌∷◌, length, get_or, ltb, leb, eqb, if◌then◌else◌}
 use Rattle.telegram.specs.declared.payload.Payload.{Payload}
 use Rattle.settings.specs.declared.Settings.{Settings}
 use Rattle.open_end.specs.declared.Frame.{Frame}

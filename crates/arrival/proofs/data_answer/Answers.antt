@@ -1,4 +1,3 @@
-use borrow.Author.Rules.{rules}
 use Rattle.arrival.proofs.data_answer.Goals as goal
 
 pub returns-in-Broken : goal.returns-in-Broken

@@ -1,5 +1,4 @@
 use mathlib.Core.Path.{◌≡◌}
-use borrow.Author.Rules.{rules}
 use Rattle.telegram.specs.declared.kinds.Telegram.{Telegram}
 use Rattle.sender.specs.Sending.{heard}
 use Rattle.sender.specs.declared.Heard.{Heard}

@@ -1,4 +1,3 @@
-use borrow.Author.Rules.{rules}
 use Rattle.arrival.proofs.on_break.Goals as goal
 
 pub returns : goal.returns

@@ -4,7 +4,6 @@ use lib.ListN.{length, drop, length-drop}
 use Prim.Native.Nat.{ℕ, ◌-◌}
 use mathlib.Core.Path.{◌≡◌, refl}
 use mathlib.Core.List.{List, [], ◌∷◌}
-use borrow.Author.Rules.{rules}
 use Rattle.open_end.proofs.behind_first.Goals as goal
 
 -- behind the first element of a list that has none stands nothing

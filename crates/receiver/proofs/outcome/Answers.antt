@@ -1,5 +1,4 @@
 use Rattle.laws.proofs.Branches.{branches}
-use borrow.Author.Rules.{rules}
 use Rattle.receiver.proofs.Verdict.{filled-notes}
 use Rattle.receiver.proofs.outcome.Goals as goal
 

@@ -1,5 +1,4 @@
 use Rattle.laws.proofs.Branches.{branches}
-use borrow.Author.Rules.{rules}
 use Rattle.summary.specs.Counting.{grown}
 use Rattle.summary.proofs.grown.Goals as goal
 

@@ -1,5 +1,4 @@
 use borrow.Author.Tests.{eq-eqb, ne_eqb}
-use borrow.Author.Rules.{rules}
 use Rattle.table.specs.Table.{uses_either}
 use Rattle.table.proofs.uses_either.Goals as goal
 

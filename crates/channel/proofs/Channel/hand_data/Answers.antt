@@ -1,7 +1,6 @@
 use Prim.Native.Nat.{ℕ}
 use mathlib.Core.List.{List}
 use mathlib.Core.Path.{◌≡◌, ap, sym, ◌∙◌}
-use borrow.Author.Rules.{rules}
 use Rattle.sender.specs.Sending.{handed}
 use Rattle.sender.specs.declared.Handing.{Handing}
 use Rattle.sender.specs.declared.Handed.{Handed}

@@ -1,4 +1,3 @@
-use borrow.Author.Rules.{rules}
 use mathlib.Core.Path.{refl}
 use Rattle.channel.specs.Opened.{wait_ends}
 use Rattle.channel.proofs.Tests.wait_ends.Goals as goal

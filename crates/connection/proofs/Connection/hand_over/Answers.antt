@@ -1,4 +1,3 @@
-use borrow.Author.Rules.{rules}
 use Rattle.connection.proofs.Connection.hand_over.Goals as goal
 
 pub returns : goal.returns

@@ -1,4 +1,3 @@
-use borrow.Author.Rules.{rules}
 use Rattle.connection.proofs.Connection.open.Goals as goal
 
 pub returns : goal.returns

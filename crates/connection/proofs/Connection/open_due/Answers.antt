@@ -9,7 +9,6 @@ use Rattle.open_end.specs.OpenEnd.{due_at}
 use Rattle.connection.specs.declared.Connection.{Connection}
 use Rattle.connection.specs.Record.{with_open_end}
 use Rattle.connection.specs.Calls.{open_due}
-use borrow.Author.Rules.{rules}
 use Rattle.connection.proofs.Connection.open_due.Goals as goal
 
 -- what the end has due, told of the record

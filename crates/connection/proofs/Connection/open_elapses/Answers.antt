@@ -6,7 +6,6 @@ use Rattle.open_end.specs.OpenEnd.{course_of, elapsed_at}
 use Rattle.connection.specs.declared.Connection.{Connection}
 use Rattle.connection.specs.declared.Answered.{Answered}
 use Rattle.connection.specs.Calls.{gives, settled, open_elapsed}
-use borrow.Author.Rules.{rules}
 use Rattle.connection.proofs.Connection.open_elapses.Goals as goal
 
 -- the end answers, and its answer settles the record

@@ -8,7 +8,6 @@ use Rattle.channel.specs.declared.Answered.{Answered}
 use Rattle.arrival.specs.Arrived.{arrived, buffered_by}
 use Rattle.open_end.specs.declared.OpenEnd.{OpenEnd}
 use Rattle.open_end.specs.OpenEnd.{with_channel, arrived_at, buffered_at}
-use borrow.Author.Rules.{rules}
 use Rattle.open_end.proofs.OpenEnd.arrive.Goals as goal
 
 -- of a telegram and the bytes behind its first

@@ -6,7 +6,6 @@ use Rattle.channel.specs.Opened.{due}
 use Rattle.open_end.specs.declared.Frame.{Frame}
 use Rattle.open_end.specs.declared.OpenEnd.{OpenEnd}
 use Rattle.open_end.specs.OpenEnd.{with_channel, frame_on, due_at}
-use borrow.Author.Rules.{rules}
 use Rattle.open_end.proofs.OpenEnd.due.Goals as goal
 
 -- what the channel has due, as a frame of the end

@@ -1,4 +1,3 @@
-use borrow.Author.Rules.{rules}
 use Rattle.open_end.proofs.OpenEnd.fresh.Goals as goal
 
 pub returns : goal.returns

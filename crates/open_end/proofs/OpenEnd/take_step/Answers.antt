@@ -6,7 +6,6 @@ use Rattle.channel.specs.declared.Answer.{Answer}
 use Rattle.channel.specs.Opened.{with_receiver}
 use Rattle.open_end.specs.declared.OpenEnd.{OpenEnd}
 use Rattle.open_end.specs.OpenEnd.{with_channel, take_answer, taken_at}
-use borrow.Author.Rules.{rules}
 use Rattle.open_end.proofs.OpenEnd.take_step.Goals as goal
 
 -- what the receiver's take comes to, with the answer to it

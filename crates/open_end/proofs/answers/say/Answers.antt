@@ -1,4 +1,3 @@
-use borrow.Author.Rules.{rules}
 use Rattle.open_end.proofs.answers.say.Goals as goal
 
 pub returns-in-Channel : goal.returns-in-Channel

@@ -1,4 +1,3 @@
-use borrow.Author.Rules.{rules}
 use Rattle.open_end.proofs.answers.tell.Goals as goal
 
 pub returns : goal.returns

@@ -2,7 +2,7 @@ use Prim.Native.Nat.{ℕ, ◌+◌, ◌≤◌}
 use mathlib.Core.Bool.{Bool, true, false}
 use mathlib.Core.Path.{◌≡◌, sym, ◌∙◌}
 use borrow.Author.Rules.{rules}
-use borrow.Author.Tests.{leb-true, not-true, not-false}
+use borrow.Author.Tests.{leb-true}
 use Rattle.laws.proofs.Cases.{and_second}
 use Rattle.opening.specs.declared.Reply.TheVariants.{Positive, Malformed}
 use Rattle.profile.specs.declared.Range.{Range}

@@ -1,5 +1,4 @@
 use mathlib.Core.Path.{sym}
-use borrow.Author.Rules.{rules}
 use Rattle.laws.proofs.Branches.{branches}
 use Rattle.profile.specs.Profile.{within}
 use Rattle.profile.proofs.Range.has.Goals as goal

@@ -1,5 +1,4 @@
 use native.Mathlib.Omega.{arith}
-use borrow.Author.Rules.{rules}
 use Rattle.receiver.proofs.Verdict.{in-two-steps}
 use Rattle.receiver.proofs.Receiver.in_order.Goals as goal
 

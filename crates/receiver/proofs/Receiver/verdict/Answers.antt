@@ -3,7 +3,6 @@ use mathlib.Core.Bool.{Bool}
 use mathlib.Core.List.{List}
 use mathlib.Core.Path.{◌≡◌}
 use Rattle.laws.proofs.Branches.{branches}
-use borrow.Author.Rules.{rules}
 use Rattle.receiver.specs.Inside.{in_order, brought_by}
 use Rattle.receiver.specs.declared.Brought.{Brought}
 use Rattle.receiver.specs.declared.Receiver.{Receiver}

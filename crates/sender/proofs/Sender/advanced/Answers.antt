@@ -1,4 +1,3 @@
-use borrow.Author.Rules.{rules}
 use Rattle.sender.proofs.Sender.advanced.Goals as goal
 
 pub returns : goal.returns

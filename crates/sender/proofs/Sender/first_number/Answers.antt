@@ -1,6 +1,5 @@
 use mathlib.Core.Path.{refl}
 use Rattle.sender.specs.Sending.{first_number}
-use borrow.Author.Rules.{rules}
 use Rattle.sender.proofs.Sender.first_number.Goals as goal
 
 pub returns : goal.returns

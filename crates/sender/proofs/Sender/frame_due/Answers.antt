@@ -1,4 +1,3 @@
-use borrow.Author.Rules.{rules}
 use Rattle.sender.specs.Sending.{frame_due}
 use Rattle.sender.proofs.Sender.frame_due.Goals as goal
 

@@ -1,6 +1,5 @@
 use Rattle.laws.proofs.Branches.{branches}
 use Rattle.sender.specs.Sending.{offered}
-use borrow.Author.Rules.{rules}
 use Rattle.sender.proofs.Sender.offer.Goals as goal
 
 pub returns-then-length-ne0 : goal.returns-then-length-ne0

@@ -1,6 +1,5 @@
 use Rattle.laws.proofs.Branches.{branches}
 use Rattle.sender.specs.Sending.{on_ack, distance}
-use borrow.Author.Rules.{rules}
 use Rattle.sender.proofs.Sender.on_ack.Goals as goal
 
 pub returns-then-length-eq0 : goal.returns-then-length-eq0

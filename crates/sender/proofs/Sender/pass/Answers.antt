@@ -1,6 +1,5 @@
 use Rattle.laws.proofs.Branches.{branches}
 use Rattle.sender.specs.Sending.{passed}
-use borrow.Author.Rules.{rules}
 use Rattle.sender.proofs.Sender.pass.Goals as goal
 
 pub returns-then-wait-eq0 : goal.returns-then-wait-eq0

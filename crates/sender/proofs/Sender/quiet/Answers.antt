@@ -1,4 +1,3 @@
-
 use Rattle.sender.proofs.Sender.quiet.Goals as goal
 
 pub returns : goal.returns

@@ -1,4 +1,3 @@
-use borrow.Author.Rules.{rules}
 use Rattle.settings.proofs.Settings.in_range.Goals as goal
 
 pub returns : goal.returns

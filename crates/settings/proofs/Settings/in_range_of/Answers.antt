@@ -25,9 +25,9 @@ waits_within-waits-requires c = search rules
 pub returns : goal.returns
 unfolding allowed_by
 returns c = rw (
-      c.waits_within-waits.ensures,
-      c.tenths-t3.ensures,
-      c.bad_block-no_block.ensures,
-      c.has-unit.ensures,
-      c.has-receive.ensures,
-    )
+  c.waits_within-waits.ensures,
+  c.tenths-t3.ensures,
+  c.bad_block-no_block.ensures,
+  c.has-unit.ensures,
+  c.has-receive.ensures,
+)

@@ -1,4 +1,3 @@
-
 use Rattle.settings.proofs.Settings.used_by.Goals as goal
 
 pub returns-then-profile : goal.returns-then-profile

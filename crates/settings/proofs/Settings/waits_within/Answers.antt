@@ -1,4 +1,3 @@
-use borrow.Author.Rules.{rules}
 use Rattle.settings.proofs.Settings.waits_within.Goals as goal
 
 pub returns : goal.returns

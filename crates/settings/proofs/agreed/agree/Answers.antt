@@ -3,7 +3,6 @@ use mathlib.Core.Path.{◌≡◌}
 use Rattle.telegram.specs.declared.kinds.Parameters.{Parameters as Fields}
 use Rattle.settings.specs.declared.Settings.{Settings}
 use Rattle.settings.specs.Agreed.{agreed}
-use borrow.Author.Rules.{rules}
 use Rattle.settings.proofs.agreed.agree.Goals as goal
 
 -- what is agreed, of its parts

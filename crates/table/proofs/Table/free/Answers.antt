@@ -1,9 +1,8 @@
-use Prim.Native.Nat.{◌-◌, ◌≤◌}
 use native.Mathlib.Omega.{arith}
-use mathlib.Core.Path.{◌≡◌, refl, sym, ◌∙◌}
+use mathlib.Core.Path.{refl, sym, ◌∙◌}
 use borrow.Author.Tests.{eq-eqb, ne_eqb}
 use Rattle.connection.specs.Record.{is_closed}
-use Rattle.table.specs.Table.{places, lowest_from, free_of}
+use Rattle.table.specs.Table.{free_of}
 use Rattle.table.proofs.Lowest.{lowest-here, lowest-next, lowest-none}
 use borrow.Author.Rules.{rules}
 use Rattle.table.proofs.Table.free.Goals as goal

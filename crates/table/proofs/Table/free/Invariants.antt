@@ -1,11 +1,7 @@
 use Prim.Native.Nat.{◌-◌, ◌≤◌}
-use native.Mathlib.Omega.{arith}
-use mathlib.Core.Path.{◌≡◌, refl, sym, ◌∙◌}
-use borrow.Author.Tests.{eq-eqb, ne_eqb}
+use mathlib.Core.Path.{◌≡◌}
 use Rattle.connection.specs.Record.{is_closed}
 use Rattle.table.specs.Table.{places, lowest_from, free_of}
-use Rattle.table.proofs.Lowest.{lowest-here, lowest-next, lowest-none}
-use borrow.Author.Rules.{rules}
 use Rattle.table.proofs.Table.free.Given as goal
 
 abbrev pub invariant-loop-p : goal.invariant-loop-p

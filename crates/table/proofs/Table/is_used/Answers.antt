@@ -1,9 +1,7 @@
-use Prim.Native.Nat.{◌-◌, ◌≤◌}
 use native.Mathlib.Omega.{arith}
-use mathlib.Core.Path.{◌≡◌, refl, sym, ◌∙◌}
-use lib.Dec.{ltb}
+use mathlib.Core.Path.{refl, sym, ◌∙◌}
 use borrow.Author.Tests.{lt-ltb, le-ltb}
-use Rattle.table.specs.Table.{places, lowest_from, uses_either, is_used}
+use Rattle.table.specs.Table.{places, uses_either, is_used}
 use Rattle.table.proofs.Lowest.{lowest-here, lowest-next, lowest-none}
 use borrow.Author.Rules.{rules}
 use Rattle.table.proofs.Table.is_used.Goals as goal

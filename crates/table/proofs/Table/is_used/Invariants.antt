@@ -1,11 +1,7 @@
 use Prim.Native.Nat.{◌-◌, ◌≤◌}
-use native.Mathlib.Omega.{arith}
-use mathlib.Core.Path.{◌≡◌, refl, sym, ◌∙◌}
+use mathlib.Core.Path.{◌≡◌}
 use lib.Dec.{ltb}
-use borrow.Author.Tests.{lt-ltb, le-ltb}
 use Rattle.table.specs.Table.{places, lowest_from, uses_either, is_used}
-use Rattle.table.proofs.Lowest.{lowest-here, lowest-next, lowest-none}
-use borrow.Author.Rules.{rules}
 use Rattle.table.proofs.Table.is_used.Given as goal
 
 abbrev pub invariant-loop-p : goal.invariant-loop-p

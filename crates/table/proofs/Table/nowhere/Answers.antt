@@ -1,4 +1,3 @@
-use borrow.Author.Rules.{rules}
 use Rattle.table.proofs.Table.nowhere.Goals as goal
 
 pub returns : goal.returns

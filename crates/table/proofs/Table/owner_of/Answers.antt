@@ -1,8 +1,7 @@
-use Prim.Native.Nat.{◌-◌, ◌≤◌}
 use native.Mathlib.Omega.{arith}
-use mathlib.Core.Path.{◌≡◌, refl, sym, ◌∙◌}
+use mathlib.Core.Path.{refl, sym, ◌∙◌}
 use Rattle.connection.specs.Record.{hears}
-use Rattle.table.specs.Table.{places, lowest_from, owner_of}
+use Rattle.table.specs.Table.{owner_of}
 use Rattle.table.proofs.Lowest.{lowest-here, lowest-next, lowest-none}
 use borrow.Author.Rules.{rules}
 use Rattle.table.proofs.Table.owner_of.Goals as goal

@@ -1,10 +1,7 @@
 use Prim.Native.Nat.{◌-◌, ◌≤◌}
-use native.Mathlib.Omega.{arith}
-use mathlib.Core.Path.{◌≡◌, refl, sym, ◌∙◌}
+use mathlib.Core.Path.{◌≡◌}
 use Rattle.connection.specs.Record.{hears}
 use Rattle.table.specs.Table.{places, lowest_from, owner_of}
-use Rattle.table.proofs.Lowest.{lowest-here, lowest-next, lowest-none}
-use borrow.Author.Rules.{rules}
 use Rattle.table.proofs.Table.owner_of.Given as goal
 
 abbrev pub invariant-loop-p : goal.invariant-loop-p

@@ -1,11 +1,10 @@
-use Prim.Native.Nat.{ℕ, ◌+◌, ◌%◌, ◌<◌, max}
+use Prim.Native.Nat.{ℕ, ◌%◌, ◌<◌, max}
 use native.Mathlib.Nat.{mod-zero}
 use native.Mathlib.Omega.{arith}
 use mathlib.Core.Bool.{Bool, true, false, not, ◌&&◌, ◌||◌, or-true, or-false}
 use mathlib.Core.Path.{◌≡◌, sym}
 use lib.Dec.{eqb}
 use borrow.Author.Tests.{eqb-true, eqb-false, ne_eqb}
-use borrow.Author.Rules.{rules}
 use Rattle.laws.proofs.Cases.{either}
 use Rattle.telegram.specs.Cutting.{frames_of}
 use Rattle.telegram.proofs.cutting.asks_at.Goals as goal

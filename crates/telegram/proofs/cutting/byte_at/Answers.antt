@@ -1,6 +1,5 @@
 use mathlib.Core.Path.{sym}
 use native.Mathlib.Omega.{arith}
-use borrow.Author.Rules.{rules}
 use Rattle.telegram.specs.Cutting.{stream_of}
 use Rattle.telegram.proofs.Bytes.{get_or-stream, get_or-stream-end}
 use Rattle.telegram.proofs.cutting.byte_at.Goals as goal

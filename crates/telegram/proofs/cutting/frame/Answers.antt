@@ -1,4 +1,3 @@
-use borrow.Author.Rules.{rules}
 use Rattle.telegram.proofs.Bytes.{frame_made}
 use Rattle.telegram.proofs.cutting.frame.Goals as goal
 

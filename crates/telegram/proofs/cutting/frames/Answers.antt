@@ -1,5 +1,4 @@
 use native.Mathlib.Omega.{arith}
-use borrow.Author.Rules.{rules}
 use Rattle.telegram.specs.Cutting.{frames_of}
 use Rattle.telegram.proofs.cutting.frames.Goals as goal
 

@@ -1,4 +1,3 @@
-use borrow.Author.Rules.{rules}
 use Rattle.telegram.proofs.Bytes.{headed-made}
 use Rattle.telegram.proofs.cutting.headed_end.Goals as goal
 

@@ -1,5 +1,4 @@
 use native.Mathlib.Omega.{arith}
-use borrow.Author.Rules.{rules}
 use Rattle.telegram.specs.Cutting.{header_of}
 use Rattle.telegram.proofs.cutting.header.Goals as goal
 

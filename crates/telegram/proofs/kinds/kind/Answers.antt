@@ -5,7 +5,6 @@ use mathlib.Core.List.{List}
 use mathlib.Core.Path.{◌≡◌, refl}
 use lib.Dec.{ltb, leb, eqb}
 use lib.ListN.{length}
-use borrow.Author.Rules.{rules}
 use borrow.Author.Tests.{ltb-true, ne_eqb, not-true, not-false}
 use Rattle.laws.proofs.Branches.{and-off'}
 use Rattle.laws.proofs.Cases.{or-first, or-second}

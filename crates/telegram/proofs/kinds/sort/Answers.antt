@@ -1,4 +1,3 @@
-use borrow.Author.Rules.{rules}
 use Rattle.telegram.proofs.kinds.sort.Goals as goal
 
 pub returns : goal.returns

@@ -1,4 +1,3 @@
-use borrow.Author.Rules.{rules}
 use Rattle.telegram.proofs.kinds.write_ack.Goals as goal
 
 pub returns-then-ready : goal.returns-then-ready

@@ -1,5 +1,4 @@
 use Rattle.laws.proofs.Branches.{branches}
-use borrow.Author.Rules.{rules}
 use Rattle.unit.proofs.ControlUnit.asked_by.Goals as goal
 
 pub returns-then-reply : goal.returns-then-reply

@@ -1,4 +1,3 @@
-use borrow.Author.Rules.{rules}
 use Rattle.unit.proofs.ControlUnit.default_settings.Goals as goal
 
 pub returns : goal.returns

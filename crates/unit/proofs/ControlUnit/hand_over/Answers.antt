@@ -1,4 +1,3 @@
-use borrow.Author.Rules.{rules}
 use Rattle.unit.proofs.ControlUnit.hand_over.Goals as goal
 
 pub returns : goal.returns

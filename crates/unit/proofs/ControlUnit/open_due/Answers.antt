@@ -9,7 +9,6 @@ use Rattle.open_end.specs.OpenEnd.{due_at}
 use Rattle.unit.specs.declared.ControlUnit.{ControlUnit}
 use Rattle.unit.specs.Record.{with_open_end}
 use Rattle.unit.specs.Calls.{open_due}
-use borrow.Author.Rules.{rules}
 use Rattle.unit.proofs.ControlUnit.open_due.Goals as goal
 
 -- what the end has due, told of the unit

@@ -6,7 +6,6 @@ use Rattle.open_end.specs.OpenEnd.{course_of, elapsed_at}
 use Rattle.unit.specs.declared.ControlUnit.{ControlUnit}
 use Rattle.unit.specs.declared.Answered.{Answered}
 use Rattle.unit.specs.Calls.{gives, settled, open_elapsed}
-use borrow.Author.Rules.{rules}
 use Rattle.unit.proofs.ControlUnit.open_elapses.Goals as goal
 
 -- the end answers, and its answer settles the unit

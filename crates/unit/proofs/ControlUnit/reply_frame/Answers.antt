@@ -1,4 +1,3 @@
-use borrow.Author.Rules.{rules}
 use Rattle.unit.proofs.ControlUnit.reply_frame.Goals as goal
 
 pub returns : goal.returns

@@ -1,5 +1,0 @@
-pub mod SliceLoan
-pub mod Call
-pub mod Frame
-pub mod Lending
-pub mod Lent
