@@ -1,3 +1,4 @@
 pub mod Complaints
+pub mod Failures
 pub mod Lines
 pub mod Options
