@@ -1,7 +1,7 @@
 #!/usr/bin/env python3
 """Respells the repository's own definitions and lemmas as today's Rattle spells names.
 
-usage: tools/respell.py            at the top of the checkout, once, behind /opt/rattle/port/port.py
+usage: tools/respell.py            at the top of the checkout, once, behind the kit's port/port.py
        tools/respell.py --list     prints the names it would change and those that fall together, and writes nothing
 
 It reads each .rt, .antt and .edit file of crates/ and tools/:
