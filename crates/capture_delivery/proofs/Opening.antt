@@ -19,10 +19,7 @@ use Rattle.telegram.specs.declared.kinds.Telegram.{Telegram}
 use Rattle.telegram.specs.declared.kinds.Telegram.TheVariants.{Data, Ack, Test, Break, Disconnect, Setup, Accept, Malformed}
 use Rattle.telegram.proofs.Forms.{sorts}
 use Rattle.telegram.proofs.Rules.{block-passes}
-use Rattle.opening.specs.Opening.{request_id, request_read, reply_read}
-use Rattle.opening.specs.declared.Request.TheVariants.{Open, Malformed as NoRequest}
-use Rattle.opening.specs.declared.Reply.{Reply}
-use Rattle.opening.specs.declared.Reply.TheVariants.{Positive, Refused, Malformed as NoReply}
+use Rattle.opening.specs.Opening.{request_id, request_read, reply_read, Reply, Open, NoRequest, Positive, Refused, NoReply}
 use Rattle.follow.specs.declared.Follow.{Follow}
 use Rattle.follow.specs.Following.{unopened, asking, granted, set_up, opened, on_reply, on_setup, on_accept, awaited, restarted, opening, heard, tester_buffer, unit_buffer}
 use Rattle.summary.specs.declared.Class.TheVariants.{OtherIds as Other}

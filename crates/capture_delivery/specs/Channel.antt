@@ -4,9 +4,7 @@ use Rattle.telegram.specs.Kinds.{sorted}
 use Rattle.telegram.specs.declared.kinds.Parameters.{Parameters}
 use Rattle.telegram.specs.declared.kinds.Telegram.{Telegram}
 use Rattle.telegram.specs.declared.kinds.Telegram.TheVariants.{Data, Ack, Test, Break, Disconnect, Setup, Accept, Malformed}
-use Rattle.opening.specs.Opening.{request_id, request_read, reply_read}
-use Rattle.opening.specs.declared.Request.TheVariants.{Open, Malformed as NoRequest}
-use Rattle.opening.specs.declared.Reply.TheVariants.{Positive}
+use Rattle.opening.specs.Opening.{request_id, request_read, reply_read, Open, NoRequest, Positive}
 use Rattle.follow.specs.declared.Side.{Side}
 use Rattle.follow.specs.declared.Side.TheVariants.{Tester, Unit as CarUnit}
 use Rattle.capture_delivery.specs.Lines.{Content, frame, no-frame}

@@ -13,9 +13,8 @@ use Rattle.telegram.specs.Forms.{malformed, Fillable, ack, test, break, disconne
 use Rattle.telegram.specs.declared.kinds.Telegram.{Telegram}
 use Rattle.telegram.specs.declared.kinds.Telegram.TheVariants.{Malformed as NoTelegram}
 use Rattle.telegram.proofs.Forms.{own-sorted, filled-sorted}
-use Rattle.opening.specs.Opening.{reply_read}
+use Rattle.opening.specs.Opening.{reply_read, NoReply}
 use Rattle.opening.specs.Short.{short_reply_read}
-use Rattle.opening.specs.declared.Reply.TheVariants.{Malformed as NoReply}
 use Rattle.profile.specs.Profile.{test_or_break, sorted_by}
 use Rattle.profile.specs.Opening.{named, reply_for}
 use Rattle.profile.specs.declared.Profile.{Profile}

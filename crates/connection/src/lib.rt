@@ -7,7 +7,7 @@
 
 ghost use Rattle.std.specs.Prelude.{◌≡◌, length};
 ghost use Rattle.telegram.specs.Cutting.{longest};
-ghost use Rattle.opening.specs.declared.Reply.TheVariants.{Positive, Refused as RefusedBy};
+ghost use Rattle.opening.specs.Opening.{Positive, Refused as RefusedBy};
 ghost use Rattle.open_end.specs.OpenEnd.{buffered_at};
 ghost use Rattle.connection.specs.Record.{closed_record, leaving_on, requesting_as, agreeing, opened, hears, is_open};
 ghost use Rattle.connection.specs.Calls.{gives, marked, hand_over, hand_nothing, shows, opening_as, opening, on_reply, on_accept, on_agreeing, settled, on_open, arrived, buffered, attempt_elapsed, open_elapsed, elapsed, closed_due, request_due, open_due, due_of, open_sent, sent_by, open_taken, taken_by, takes, looked, closed};
@@ -15,7 +15,7 @@ ghost use Rattle.connection.specs.Calls.{gives, marked, hand_over, hand_nothing,
 use crate::attempt::{Attempt, new_attempt, no_attempt};
 use open_end::answers::{Answer, Told, tell};
 use open_end::{Course, Frame, OpenEnd, course_of, no_frame, shown};
-use opening::Reply;
+use opening::ReplyError;
 use profile::Profile;
 use settings::Settings;
 use settings::agreed::{agree, own_fields};
@@ -234,13 +234,14 @@ impl Connection {
     }
 
     // A reply to the C0.
-    fn on_reply(self, reply: Reply) -> Answered
+    #[tactic(auto, unfolding(crate::specs::Calls::on_reply))]
+    fn on_reply(self, reply: Result<u16, ReplyError>) -> Answered
         ensures { result ≡ on_reply self reply }
     {
         match reply {
-            Reply::Malformed => self.gives(channel::Answer::Malformed),
-            Reply::Refused(opcode) => self.on_refusal(opcode),
-            Reply::Positive(transmit) => self.on_positive(transmit),
+            Ok(transmit) => self.on_positive(transmit),
+            Err(ReplyError::Refused(opcode)) => self.on_refusal(opcode),
+            Err(ReplyError::Malformed) => self.gives(channel::Answer::Malformed),
         }
     }
 

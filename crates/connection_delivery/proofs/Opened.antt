@@ -12,7 +12,7 @@ use Rattle.telegram.specs.Time.{tenths_of}
 use Rattle.telegram.specs.Outgoing.{bytes_of}
 use Rattle.telegram.specs.declared.payload.Payload.{Payload}
 use Rattle.opening.specs.Short.{short_reply_of}
-use Rattle.opening.specs.declared.Reply.TheVariants.{Positive}
+use Rattle.opening.specs.Opening.{Positive}
 use Rattle.telegram.specs.Kinds.{bad_block, setup_of, accept_of}
 use Rattle.telegram.specs.declared.kinds.Parameters.{Parameters as Fields}
 use Rattle.telegram.proofs.RoundTrip.{accept-sorted}

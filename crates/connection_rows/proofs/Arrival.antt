@@ -10,7 +10,7 @@ use Rattle.telegram.specs.Kinds.{bad_block, fields, fillable}
 use Rattle.telegram.specs.declared.kinds.Sorted.{Sorted}
 use Rattle.telegram.specs.declared.kinds.Telegram.{Telegram}
 use Rattle.telegram.specs.declared.kinds.Telegram.TheVariants.{Malformed}
-use Rattle.opening.specs.declared.Reply.{Reply}
+use Rattle.opening.specs.Opening.{Reply}
 use Rattle.profile.specs.Profile.{sorted_by}
 use Rattle.profile.specs.Opening.{reply_for}
 use Rattle.arrival.proofs.Arriving.{unwritten}

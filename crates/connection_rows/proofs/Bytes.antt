@@ -12,10 +12,8 @@ use Rattle.laws.proofs.Cases.{by, either, and_first, and_second}
 use Rattle.telegram.specs.Kinds.{sorted}
 use Rattle.telegram.specs.Forms.{malformed}
 use Rattle.telegram.specs.declared.kinds.Sorted.{Sorted}
-use Rattle.opening.specs.Opening.{id_of, reply_read}
+use Rattle.opening.specs.Opening.{id_of, reply_read, Reply, Positive, Refused, NoReply}
 use Rattle.opening.specs.Short.{short_reply_read}
-use Rattle.opening.specs.declared.Reply.{Reply}
-use Rattle.opening.specs.declared.Reply.TheVariants.{Positive, Refused, Malformed as NoReply}
 use Rattle.profile.specs.Profile.{within, test_or_break, sorted_by}
 use Rattle.profile.specs.Opening.{named, reply_for}
 use Rattle.profile.specs.declared.Profile.{Profile}

@@ -7,10 +7,8 @@ use mathlib.Core.Path.{◌≡◌, refl, ap}
 use lib.ListN.{length}
 use borrow.Author.Tests.{lt-ltb, eq-eqb}
 use Rattle.telegram.specs.Outgoing.{bytes_of}
-use Rattle.opening.specs.Opening.{low_of, high_of, id_of, clear, request_of, reply_of, request_read, reply_read, refusal}
+use Rattle.opening.specs.Opening.{low_of, high_of, id_of, clear, request_of, reply_of, request_read, reply_read, refusal, Positive, Refused, Open}
 use Rattle.opening.specs.Short.{short_request_of, short_reply_of, short_request_read, short_reply_read}
-use Rattle.opening.specs.declared.Reply.TheVariants.{Positive, Refused}
-use Rattle.opening.specs.declared.Request.TheVariants.{Open}
 
 -- an ID's high byte has no bit beside the ID's
 high-clear : (i : ℕ) → clear (high_of i) ≡ true

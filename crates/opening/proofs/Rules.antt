@@ -13,12 +13,8 @@ use borrow.Author.Tests.{ltb-true, eqb-true, eq-eqb, eqb-false}
 use Rattle.laws.proofs.Cases.{by, either, and_first, and_second}
 use Rattle.telegram.specs.Forms.{Bytes, Taken}
 use Rattle.telegram.proofs.Forms.{taken}
-use Rattle.opening.specs.Opening.{request_id, high_of, id_of, clear, refusal, request_read, reply_read}
+use Rattle.opening.specs.Opening.{request_id, high_of, id_of, clear, refusal, request_read, reply_read, Reply, Request, Positive, Refused, NoReply, Open, NoRequest}
 use Rattle.opening.specs.Forms.{RequestForm, as-open, ReplyForm, as-positive, as-refused, OpeningWrites}
-use Rattle.opening.specs.declared.Reply.{Reply}
-use Rattle.opening.specs.declared.Reply.TheVariants.{Positive, Refused, Malformed as NoReply}
-use Rattle.opening.specs.declared.Request.{Request}
-use Rattle.opening.specs.declared.Request.TheVariants.{Open, Malformed as NoRequest}
 use Rattle.opening.proofs.Elements.{counted}
 use Rattle.opening.proofs.RoundTrip.{request-read, positive-read}
 

@@ -13,11 +13,8 @@ use Rattle.telegram.specs.Forms.{Taken}
 use Rattle.telegram.proofs.Forms.{taken}
 use Rattle.opening.specs.Short.{short_request_read, short_reply_read}
 use Rattle.opening.specs.Forms.{ShortRequestForm, as-short-open, ShortReplyForm, as-short-positive, as-short-refused, ShortWrites}
-use Rattle.opening.specs.declared.Reply.{Reply}
-use Rattle.opening.specs.declared.Reply.TheVariants.{Refused, Malformed as NoReply}
-use Rattle.opening.specs.declared.Request.{Request}
-use Rattle.opening.specs.declared.Request.TheVariants.{Open, Malformed as NoRequest}
 use Rattle.opening.proofs.Elements.{counted}
+use Rattle.opening.specs.Opening.{Reply, Request, Refused, NoReply, Open, NoRequest}
 use Rattle.opening.proofs.Rules.{tests}
 
 -- "unit, C0, low byte"; "00, opcode, low byte"

@@ -1,12 +1,8 @@
 -- 01, "Opening", and 001, 5.1, in bytes. No promise cites these; proofs/Rules.antt proves them of what the promises cite.
 use Rattle.std.specs.Prelude.{ℕ, ◌/◌, ◌%◌, ◌≤◌, ◌<◌, List, [], ◌∷◌, ◌≡◌}
 use Rattle.telegram.specs.Outgoing.{bytes_of}
-use Rattle.opening.specs.Opening.{request_of, reply_of}
+use Rattle.opening.specs.Opening.{request_of, reply_of, Reply, Request, Positive, Refused, Open}
 use Rattle.opening.specs.Short.{short_request_of, short_reply_of}
-use Rattle.opening.specs.declared.Reply.{Reply}
-use Rattle.opening.specs.declared.Reply.TheVariants.{Positive, Refused}
-use Rattle.opening.specs.declared.Request.{Request}
-use Rattle.opening.specs.declared.Request.TheVariants.{Open}
 
 -- the bytes of a request
 pub data RequestForm (s : List ℕ) : Request → Type 0 where

@@ -1,11 +1,33 @@
 -- 01, "Opening": the C0 request and its replies. IDs are those of the side that asks.
-use Rattle.std.specs.Prelude.{ℕ, ◌+◌, ◌*◌, ◌/◌, ◌%◌, Bool, ◌&&◌, ◌||◌, List, [], ◌∷◌, length, get_or, ltb, eqb, if◌then◌else◌}
+use Rattle.std.specs.Prelude.{ℕ, ◌+◌, ◌*◌, ◌/◌, ◌%◌, Bool, ◌&&◌, ◌||◌, List, [], ◌∷◌, Option, Some, None, Result, Ok, Err, length, get_or, ltb, eqb, if◌then◌else◌}
 use Rattle.telegram.specs.Outgoing.{payload_of}
 use Rattle.telegram.specs.declared.payload.Payload.{Payload}
-use Rattle.opening.specs.declared.Reply.{Reply}
-use Rattle.opening.specs.declared.Reply.TheVariants.{Positive, Refused, Malformed as NoReply}
-use Rattle.opening.specs.declared.Request.{Request}
-use Rattle.opening.specs.declared.Request.TheVariants.{Open, Malformed as NoRequest}
+use Rattle.opening.specs.declared.ReplyError.{ReplyError}
+use Rattle.opening.specs.declared.ReplyError.TheVariants.{Refused as RefusedBy, Malformed}
+use Rattle.opening.specs.declared.Request.{Request as Asked}
+
+-- what a frame says as a request: one that opens, or none
+abbrev pub Request : Type 0
+Request = Option Asked
+
+abbrev pub Open : (unit receive : ℕ) → Request
+Open unit receive = Some (record { unit = unit; receive = receive })
+
+pattern abbrev pub NoRequest : Request
+NoRequest = None
+
+-- what a frame says as a reply: a positive one with our transmit ID, a refusal with its opcode, or none
+abbrev pub Reply : Type 0
+Reply = Result ℕ ReplyError
+
+pattern abbrev pub Positive : ℕ → Reply
+Positive transmit = Ok transmit
+
+pattern abbrev pub Refused : ℕ → Reply
+Refused opcode = Err (RefusedBy opcode)
+
+pattern abbrev pub NoReply : Reply
+NoReply = Err Malformed
 
 -- the CAN ID of every request
 abbrev pub request_id : ℕ

@@ -2,11 +2,7 @@
 use Rattle.std.specs.Prelude.{ℕ, ◌&&◌, List, [], ◌∷◌, length, get_or, eqb, if◌then◌else◌}
 use Rattle.telegram.specs.Outgoing.{payload_of}
 use Rattle.telegram.specs.declared.payload.Payload.{Payload}
-use Rattle.opening.specs.Opening.{low_of}
-use Rattle.opening.specs.declared.Reply.{Reply}
-use Rattle.opening.specs.declared.Reply.TheVariants.{Positive, Refused, Malformed as NoReply}
-use Rattle.opening.specs.declared.Request.{Request}
-use Rattle.opening.specs.declared.Request.TheVariants.{Open, Malformed as NoRequest}
+use Rattle.opening.specs.Opening.{low_of, Reply, Request, Positive, Refused, NoReply, Open, NoRequest}
 
 -- the request: unit, C0, and of our receive ID the "lower 8 bits of the CAN ID"
 abbrev pub short_request_of : (unit receive : ℕ) → Payload

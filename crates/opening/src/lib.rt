@@ -21,21 +21,19 @@ pub const NOT_FOR_NOW: u8 = 0xD7;
 
 pub const NO_RESOURCES: u8 = 0xD8;
 
-// A reply, read by the side that sent the request.
+// A well-formed request, read by the side that is asked.
 #[derive(Clone, Copy)]
-pub enum Reply {
-    // Opened: the ID to transmit on.
-    Positive(u16),
-    // The opcode, D6, D7 or D8.
-    Refused(u8),
-    Malformed,
+pub struct Request {
+    pub unit: u8,
+    // The ID on which the asking side receives.
+    pub receive: u16,
 }
 
-// A request, read by the side that is asked.
+// Why a reply names no transmit ID.
 #[derive(Clone, Copy)]
-pub enum Request {
-    // The unit asked, and the ID on which the asking side receives.
-    Open { unit: u8, receive: u16 },
+pub enum ReplyError {
+    // The opcode, D6, D7 or D8.
+    Refused(u8),
     Malformed,
 }
 
@@ -84,42 +82,46 @@ fn id_of(low: u8, high: u8) -> u16
     low as u16 + 256 * (high as u16)
 }
 
-// Reads a request.
-pub fn read_request(s: &[u8]) -> Request
+// Reads a request; none if it is malformed.
+#[tactic(auto, using(laws::proofs::Branches::branches), unfolding(crate::specs::Opening::request_read))]
+pub fn read_request(s: &[u8]) -> Option<Request>
     ensures { result ≡ request_read s.now }
 {
     if s.len() != 7 {
-        return Request::Malformed;
+        return None;
     }
     let high = s[5];
     if (s[1] == 0xC0) & (s[2] == 0x00) & (s[3] == 0x10) & (high < 8) & (s[6] == 0x01) {
-        return Request::Open {
+        Some(Request {
             unit: s[0],
             receive: id_of(s[4], high),
-        };
+        })
+    } else {
+        None
     }
-    Request::Malformed
 }
 
-// Reads a reply against our own receive ID.
-pub fn read_reply(s: &[u8], receive: u16) -> Reply
+// Reads a reply against our own receive ID: the ID to transmit on.
+#[tactic(auto, using(laws::proofs::Branches::branches), unfolding(crate::specs::Opening::reply_read))]
+pub fn read_reply(s: &[u8], receive: u16) -> Result<u16, ReplyError>
     ensures { result ≡ reply_read s.now receive }
 {
     if s.len() != 7 {
-        return Reply::Malformed;
+        return Err(ReplyError::Malformed);
     }
     let zero = s[0];
     let opcode = s[1];
     if (zero == 0x00)
         & ((opcode == NOT_SUPPORTED) | (opcode == NOT_FOR_NOW) | (opcode == NO_RESOURCES))
     {
-        return Reply::Refused(opcode);
+        return Err(ReplyError::Refused(opcode));
     }
     let ours = s[3];
     let high = s[5];
     let own = id_of(s[2], ours) == receive;
     if (zero == 0x00) & (opcode == POSITIVE) & (ours < 8) & own & (high < 8) & (s[6] == 0x01) {
-        return Reply::Positive(id_of(s[4], high));
+        Ok(id_of(s[4], high))
+    } else {
+        Err(ReplyError::Malformed)
     }
-    Reply::Malformed
 }

@@ -2,7 +2,7 @@
 ghost use Rattle.std.specs.Prelude.{◌≡◌};
 ghost use Rattle.opening.specs.Short.{short_request_of, short_reply_of, short_request_read, short_reply_read};
 
-use crate::{NO_RESOURCES, POSITIVE, Reply, Request};
+use crate::{NO_RESOURCES, POSITIVE, ReplyError, Request};
 use telegram::payload::Payload;
 
 // The request to a unit, by an end that receives on the given ID.
@@ -32,36 +32,39 @@ fn channel_id(low: u8) -> u16
     low as u16
 }
 
-// Reads a request; the ID in it is without its offset.
-pub fn read_request(s: &[u8]) -> Request
+// Reads a request; the ID in it is without its offset. None if it is malformed.
+#[tactic(auto, using(laws::proofs::Branches::branches), unfolding(crate::specs::Short::short_request_read))]
+pub fn read_request(s: &[u8]) -> Option<Request>
     ensures { result ≡ short_request_read s.now }
 {
     if s.len() != 3 {
-        return Request::Malformed;
+        return None;
     }
     if s[1] == 0xC0 {
-        return Request::Open {
+        Some(Request {
             unit: s[0],
             receive: channel_id(s[2]),
-        };
+        })
+    } else {
+        None
     }
-    Request::Malformed
 }
 
-// Reads a reply; the ID in it is without its offset.
-pub fn read_reply(s: &[u8]) -> Reply
+// Reads a reply: the ID to transmit on, without its offset.
+#[tactic(auto, using(laws::proofs::Branches::branches), unfolding(crate::specs::Short::short_reply_read))]
+pub fn read_reply(s: &[u8]) -> Result<u16, ReplyError>
     ensures { result ≡ short_reply_read s.now }
 {
     if s.len() != 3 {
-        return Reply::Malformed;
+        return Err(ReplyError::Malformed);
     }
     let zero = s[0];
     let opcode = s[1];
     if (zero == 0x00) & (opcode == NO_RESOURCES) {
-        return Reply::Refused(opcode);
+        Err(ReplyError::Refused(opcode))
+    } else if (zero == 0x00) & (opcode == POSITIVE) {
+        Ok(channel_id(s[2]))
+    } else {
+        Err(ReplyError::Malformed)
     }
-    if (zero == 0x00) & (opcode == POSITIVE) {
-        return Reply::Positive(channel_id(s[2]));
-    }
-    Reply::Malformed
 }

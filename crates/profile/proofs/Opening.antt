@@ -15,12 +15,9 @@ use Rattle.laws.proofs.Cases.{by}
 use Rattle.telegram.specs.Forms.{Bytes, Taken, formed}
 use Rattle.telegram.specs.Outgoing.{bytes_of}
 use Rattle.telegram.proofs.Forms.{taken}
-use Rattle.opening.specs.Opening.{request_of, reply_of, refusal, reply_read}
+use Rattle.opening.specs.Opening.{request_of, reply_of, refusal, reply_read, Reply, Positive, Refused, NoReply as Malformed, Open}
 use Rattle.opening.specs.Short.{short_reply_of, short_request_read, short_reply_read}
 use Rattle.opening.specs.Forms.{ReplyForm, as-positive, ShortReplyForm}
-use Rattle.opening.specs.declared.Reply.{Reply}
-use Rattle.opening.specs.declared.Reply.TheVariants.{Positive, Refused, Malformed}
-use Rattle.opening.specs.declared.Request.TheVariants.{Open}
 use Rattle.opening.proofs.RoundTrip.{positive-read, refused-read, short-positive-read}
 use Rattle.opening.proofs.Rules.{reply-reads}
 use Rattle.opening.proofs.ShortRules.{short-other-read, short-length-read, short-reply-reads}

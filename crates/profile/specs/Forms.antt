@@ -3,9 +3,8 @@ use Rattle.std.specs.Prelude.{ℕ, ◌+◌, ◌%◌, ◌≤◌, ◌<◌, true, �
 use Rattle.telegram.specs.Forms.{Formed}
 use Rattle.telegram.specs.declared.kinds.Sorted.{Sorted}
 use Rattle.telegram.specs.declared.kinds.Telegram.TheVariants.{Test, Break}
-use Rattle.opening.specs.declared.Reply.{Reply}
-use Rattle.opening.specs.declared.Reply.TheVariants.{Positive, Refused}
 use Rattle.profile.specs.declared.Profile.{Profile}
+use Rattle.opening.specs.Opening.{Reply, Positive, Refused}
 use Rattle.profile.specs.declared.Range.{Range}
 
 -- a number lies from the least to the most

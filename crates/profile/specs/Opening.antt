@@ -1,10 +1,8 @@
 -- 02, 10: an opening by the numbers of its profile.
 use Rattle.std.specs.Prelude.{ℕ, ◌+◌, Bool, List, eqb, if◌then◌else◌}
 use Rattle.telegram.specs.declared.payload.Payload.{Payload}
-use Rattle.opening.specs.Opening.{request_of, reply_read}
+use Rattle.opening.specs.Opening.{request_of, reply_read, Reply, Positive, Refused, NoReply as Malformed}
 use Rattle.opening.specs.Short.{short_request_of, short_reply_read}
-use Rattle.opening.specs.declared.Reply.{Reply}
-use Rattle.opening.specs.declared.Reply.TheVariants.{Positive, Refused, Malformed}
 use Rattle.profile.specs.declared.Profile.{Profile}
 use Rattle.profile.specs.Profile.{within}
 

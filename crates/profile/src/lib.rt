@@ -2,11 +2,10 @@
 #![tactic(auto)]
 
 ghost use Rattle.std.specs.Prelude.{◌≡◌};
-ghost use Rattle.opening.specs.declared.Reply.TheVariants.{Positive};
 ghost use Rattle.profile.specs.Profile.{within, tp20, drive, comfort, high, low, test_or_break, sorted_by};
 ghost use Rattle.profile.specs.Opening.{answers_on, request_for, named, reply_for};
 
-use opening::{Reply, read_reply, short, write_request};
+use opening::{ReplyError, read_reply, short, write_request};
 use telegram::kinds::{Sorted, Telegram, sort};
 use telegram::payload::Payload;
 
@@ -44,16 +43,11 @@ pub struct Profile {
 
 impl Range {
     // Whether a number lies in it.
+    #[tactic(auto, using(laws::proofs::Branches::branches), unfolding(crate::specs::Profile::within))]
     pub fn has(self, n: u32) -> bool
         ensures { result ≡ within self n }
     {
-        if n < self.least as u32 {
-            return false;
-        }
-        if (self.most as u32) < n {
-            return false;
-        }
-        true
+        self.least as u32 <= n && n <= self.most as u32
     }
 }
 
@@ -209,64 +203,55 @@ impl Profile {
     }
 
     // The C0 to a unit, by an end that receives on the given ID.
+    #[tactic(auto, using(laws::proofs::Branches::branches), unfolding(crate::specs::Opening::request_for))]
     pub fn request_to(self, unit: u8, receive: u16) -> Payload
         ensures { result ≡ request_for self unit receive }
     {
         if self.short {
-            return short::write_request(unit, receive);
+            short::write_request(unit, receive)
+        } else {
+            write_request(unit, receive)
         }
-        write_request(unit, receive)
     }
 
-    // Reads a reply to the C0 against our own receive ID.
-    pub fn read_reply(self, s: &[u8], receive: u16) -> Reply
+    // Reads a reply to the C0 against our own receive ID: the ID to transmit on.
+    #[tactic(auto, using(laws::proofs::Branches::branches), unfolding(crate::specs::Opening::reply_for))]
+    pub fn read_reply(self, s: &[u8], receive: u16) -> Result<u16, ReplyError>
         ensures { result ≡ reply_for self s.now receive }
     {
         if self.short {
-            return self.named(short::read_reply(s));
+            self.named(short::read_reply(s))
+        } else {
+            self.named(read_reply(s, receive))
         }
-        self.named(read_reply(s, receive))
     }
 
-    // A reply, with the transmit ID that a positive one names.
-    fn named(self, reply: Reply) -> Reply
+    // A reply by the profile: the offset is added to the ID that a positive one names, and the sum must be a transmit ID.
+    fn named(self, reply: Result<u16, ReplyError>) -> Result<u16, ReplyError>
         ensures { result ≡ named self reply }
     {
-        match reply {
-            Reply::Positive(id) => self.transmits_on(id),
-            Reply::Refused(opcode) => Reply::Refused(opcode),
-            Reply::Malformed => Reply::Malformed,
+        let transmit = self.offset as u32 + reply? as u32;
+        if self.transmits.has(transmit) {
+            Ok(transmit as u16)
+        } else {
+            Err(ReplyError::Malformed)
         }
-    }
-
-    // A positive reply: the offset is added to the ID in it, and the sum must be a transmit ID.
-    fn transmits_on(self, id: u16) -> Reply
-        ensures { result ≡ named self (Positive id) }
-    {
-        let transmits = self.transmits;
-        let transmit = self.offset as u32 + id as u32;
-        if !transmits.has(transmit) {
-            return Reply::Malformed;
-        }
-        Reply::Positive(transmit as u16)
     }
 
     // Sorts a telegram into its kind: without tests, a test or a break is no telegram.
+    #[tactic(auto, using(laws::proofs::Branches::branches), unfolding(crate::specs::Profile::sorted_by))]
     pub fn sort(self, s: &[u8]) -> Sorted
         ensures { result ≡ sorted_by self s.now }
     {
         let sorted = sort(s);
-        if self.tests {
-            return sorted;
-        }
-        let kind = sorted.kind;
-        if test_or_break(kind) {
-            return Sorted {
+        if test_or_break(sorted.kind) && !self.tests {
+            Sorted {
                 kind: Telegram::Malformed,
                 padded: false,
-            };
+            }
+        } else {
+            sorted
         }
-        sorted
     }
 }
 
@@ -274,21 +259,5 @@ impl Profile {
 fn test_or_break(kind: Telegram) -> bool
     ensures { result ≡ test_or_break kind }
 {
-    match kind {
-        Telegram::Data {
-            asks: _,
-            last: _,
-            number: _,
-        } => false,
-        Telegram::Ack {
-            ready: _,
-            number: _,
-        } => false,
-        Telegram::Test => true,
-        Telegram::Break => true,
-        Telegram::Disconnect => false,
-        Telegram::Setup(_) => false,
-        Telegram::Accept(_) => false,
-        Telegram::Malformed => false,
-    }
+    matches!(kind, Telegram::Test | Telegram::Break)
 }

@@ -16,8 +16,7 @@ use Rattle.telegram.proofs.Rules.{block-passes}
 use Rattle.telegram.specs.declared.kinds.Parameters.{Parameters as Fields}
 use Rattle.telegram.specs.declared.kinds.Telegram.{Telegram}
 use Rattle.telegram.specs.declared.kinds.Telegram.TheVariants.{Data, Ack, Test, Break, Disconnect, Setup, Accept, Malformed as NoTelegram}
-use Rattle.opening.specs.declared.Reply.{Reply}
-use Rattle.opening.specs.declared.Reply.TheVariants.{Positive, Refused as RefusedBy, Malformed as NoReply}
+use Rattle.opening.specs.Opening.{Reply, Positive, Refused as RefusedBy, NoReply}
 use Rattle.profile.specs.Profile.{sorted_by}
 use Rattle.profile.specs.Forms.{Within}
 use Rattle.profile.specs.Opening.{reply_for}

@@ -17,10 +17,8 @@ use Rattle.telegram.proofs.RoundTrip.{ack-sorted, test-sorted, disconnect-sorted
 use Rattle.telegram.proofs.Forms.{own-sorted, filled-sorted, sorts}
 use Rattle.telegram.proofs.Cut.{published, cutting-length}
 use Rattle.telegram.proofs.Rules.{declares-only, writes, cut}
-use Rattle.opening.specs.Opening.{request_of, reply_of}
+use Rattle.opening.specs.Opening.{request_of, reply_of, Open, NoRequest, Positive, Refused, NoReply}
 use Rattle.opening.specs.Forms.{RequestForm, as-open, ReplyForm, as-positive, as-refused}
-use Rattle.opening.specs.declared.Request.TheVariants.{Open, Malformed as NoRequest}
-use Rattle.opening.specs.declared.Reply.TheVariants.{Positive, Refused, Malformed as NoReply}
 use Rattle.opening.proofs.RoundTrip.{request-read, positive-read, refused-read}
 use Rattle.opening.proofs.Rules.{refusal-exactly, request-reads, reply-reads, writes as opening-writes}
 use Rattle.sender.specs.declared.Terms.{Terms}

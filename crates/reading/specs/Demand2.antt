@@ -10,12 +10,8 @@ use Rattle.telegram.specs.declared.kinds.Parameters.{Parameters}
 use Rattle.telegram.specs.declared.kinds.Sorted.{Sorted}
 use Rattle.telegram.specs.declared.kinds.Telegram.{Telegram}
 use Rattle.telegram.specs.declared.kinds.Telegram.TheVariants.{Data, Ack, Test, Break, Disconnect, Setup, Accept}
-use Rattle.opening.specs.Opening.{request_of, reply_of, request_read, reply_read}
+use Rattle.opening.specs.Opening.{request_of, reply_of, request_read, reply_read, Request, Reply, Open, NoRequest, Positive, Refused, NoReply}
 use Rattle.opening.specs.Forms.{RequestForm, ReplyForm, OpeningWrites}
-use Rattle.opening.specs.declared.Request.{Request}
-use Rattle.opening.specs.declared.Request.TheVariants.{Open, Malformed as NoRequest}
-use Rattle.opening.specs.declared.Reply.{Reply}
-use Rattle.opening.specs.declared.Reply.TheVariants.{Positive, Refused, Malformed as NoReply}
 use Rattle.sender.specs.declared.Terms.{Terms}
 use Rattle.sender.specs.declared.Sender.{Sender}
 use Rattle.sender.specs.declared.Hearing.TheVariants.{Done}

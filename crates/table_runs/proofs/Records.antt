@@ -9,8 +9,7 @@ use Rattle.laws.proofs.Cases.{by, by-not, by-eq, by-lt, by_le}
 use Rattle.telegram.specs.Kinds.{bad_block}
 use Rattle.telegram.specs.declared.kinds.Telegram.{Telegram}
 use Rattle.telegram.specs.declared.kinds.Telegram.TheVariants.{Data, Ack, Test, Break, Disconnect, Setup, Accept, Malformed as NoTelegram}
-use Rattle.opening.specs.declared.Reply.{Reply}
-use Rattle.opening.specs.declared.Reply.TheVariants.{Positive, Refused, Malformed as NoReply}
+use Rattle.opening.specs.Opening.{Reply, Positive, Refused, NoReply}
 use Rattle.profile.specs.Profile.{tp20, sorted_by}
 use Rattle.profile.specs.Opening.{reply_for}
 use Rattle.open_end.specs.declared.Frame.{Frame}

@@ -15,7 +15,7 @@
 
 ghost use Rattle.std.specs.Prelude.{◌≤◌, length};
 
-use opening::{Reply, Request};
+use opening::{ReplyError, Request};
 use telegram::cutting::Message;
 use telegram::kinds::{Parameters, Sorted, Telegram};
 use telegram::payload::Payload;
@@ -209,29 +209,29 @@ fn parameters(text: &mut [u8], at: usize, p: Parameters) -> usize {
     byte(text, at, p.t3)
 }
 
-fn request(text: &mut [u8], at: usize, r: Request) -> usize {
+fn request(text: &mut [u8], at: usize, r: Option<Request>) -> usize {
     match r {
-        Request::Open { unit, receive } => {
+        Some(Request { unit, receive }) => {
             let at = writing::bytes(text, at, b" unit");
             let at = byte(text, at, unit);
             let at = writing::bytes(text, at, b", receive ID");
             id(text, at, receive)
         }
-        Request::Malformed => writing::bytes(text, at, b" malformed"),
+        None => writing::bytes(text, at, b" malformed"),
     }
 }
 
-fn reply(text: &mut [u8], at: usize, r: Reply) -> usize {
+fn reply(text: &mut [u8], at: usize, r: Result<u16, ReplyError>) -> usize {
     match r {
-        Reply::Positive(transmit) => {
+        Ok(transmit) => {
             let at = writing::bytes(text, at, b" positive, transmit ID");
             id(text, at, transmit)
         }
-        Reply::Refused(opcode) => {
+        Err(ReplyError::Refused(opcode)) => {
             let at = writing::bytes(text, at, b" refused by");
             byte(text, at, opcode)
         }
-        Reply::Malformed => writing::bytes(text, at, b" malformed"),
+        Err(ReplyError::Malformed) => writing::bytes(text, at, b" malformed"),
     }
 }
 

@@ -14,8 +14,7 @@ use Rattle.telegram.specs.Forms.{Fillable, ack, test, break, disconnect, accept}
 use Rattle.telegram.specs.declared.kinds.Sorted.{Sorted}
 use Rattle.telegram.specs.declared.kinds.Telegram.{Telegram}
 use Rattle.telegram.proofs.Forms.{own-sorted, filled-sorted}
-use Rattle.opening.specs.Opening.{request_id, request_read}
-use Rattle.opening.specs.declared.Request.TheVariants.{Malformed as NoRequest}
+use Rattle.opening.specs.Opening.{request_id, request_read, NoRequest}
 use Rattle.channel.specs.declared.Answer.TheVariants.{Malformed, NotDue}
 use Rattle.open_end.specs.declared.answers.Answer.TheVariants.{Channel, OtherId}
 use Rattle.open_end.specs.Answers.{told}

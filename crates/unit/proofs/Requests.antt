@@ -8,10 +8,8 @@ use lib.Dec.{eqb}
 use borrow.Author.Tests.{lt-ltb, le-ltb, eq-eqb, ne_eqb}
 use Rattle.laws.proofs.Branches.{and-off'}
 use Rattle.telegram.specs.Forms.{Bytes, formless}
-use Rattle.opening.specs.Opening.{request_read}
+use Rattle.opening.specs.Opening.{request_read, Request, NoRequest}
 use Rattle.opening.specs.Forms.{RequestForm}
-use Rattle.opening.specs.declared.Request.{Request}
-use Rattle.opening.specs.declared.Request.TheVariants.{Malformed as NoRequest}
 use Rattle.opening.proofs.Rules.{request-reads}
 use Rattle.channel.specs.declared.Answer.TheVariants.{Good, Malformed}
 use Rattle.open_end.specs.declared.answers.Answer.TheVariants.{OtherId, Ended}

@@ -1,9 +1,7 @@
 -- 02, request 5, "The car's side for the bench": what each call answers and leaves. Rows 3, 4 and 8 of 01 are amended for this side.
-use Rattle.std.specs.Prelude.{ℕ, ◌+◌, Bool, true, false, not, ◌||◌, List, length, take, eqb, if◌then◌else◌}
+use Rattle.std.specs.Prelude.{ℕ, ◌+◌, Bool, true, false, not, ◌||◌, List, Some, length, take, eqb, if◌then◌else◌}
 use Rattle.std.specs.Borrow.{Bor}
-use Rattle.opening.specs.Opening.{request_id, request_read, reply_of}
-use Rattle.opening.specs.declared.Request.{Request}
-use Rattle.opening.specs.declared.Request.TheVariants.{Open, Malformed as NoRequest}
+use Rattle.opening.specs.Opening.{request_id, request_read, reply_of, Request, NoRequest}
 use Rattle.telegram.specs.Cutting.{none}
 use Rattle.telegram.specs.Kinds.{bad_block, sorted, accept_of, disconnect_of}
 use Rattle.telegram.specs.declared.cutting.Message.{Message}
@@ -74,7 +72,7 @@ set_to c s reply =
 -- on 0x200, "closed or not (all but a well-formed C0 gives 1 there, one for another unit 3)"
 unfoldable pub on_request : ControlUnit → Request → Answered
 on_request c NoRequest = gives Malformed c
-on_request c (Open unit receive) = if not (eqb unit c.settings.unit) then not_for_us c else ends c (asked_by c receive)
+on_request c (Some q) = if not (eqb q.unit c.settings.unit) then not_for_us c else ends c (asked_by c q.receive)
 
 -- an A0: "From the D0's hand-over it answers A0 (row 2 covers it too)"; "An A0 on an open connection begins it anew"
 unfoldable pub on_setup : ControlUnit → Fields → Answered

@@ -287,19 +287,17 @@ impl ControlUnit {
     }
 
     // A frame on 0x200.
-    fn on_request(self, request: Request) -> Answered
+    #[tactic(auto, using(laws::proofs::Branches::branches), unfolding(crate::specs::Calls::on_request))]
+    fn on_request(self, request: Option<Request>) -> Answered
         ensures { result ≡ on_request self request }
     {
-        match request {
-            Request::Malformed => self.gives(channel::Answer::Malformed),
-            Request::Open { unit, receive } => {
-                let ours = self.settings.unit;
-                if unit != ours {
-                    return self.not_for_us();
-                }
-                self.ends(self.asked_by(receive))
-            }
+        let Some(Request { unit, receive }) = request else {
+            return self.gives(channel::Answer::Malformed);
+        };
+        if unit != self.settings.unit {
+            return self.not_for_us();
         }
+        self.ends(self.asked_by(receive))
     }
 
     // An A0.

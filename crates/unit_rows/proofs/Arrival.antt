@@ -12,8 +12,7 @@ use Rattle.telegram.specs.Kinds.{bad_block, fields, fillable, kind_of, sorted}
 use Rattle.telegram.specs.declared.kinds.Telegram.{Telegram}
 use Rattle.telegram.specs.declared.kinds.Telegram.TheVariants.{Setup}
 use Rattle.arrival.proofs.Arriving.{unwritten}
-use Rattle.opening.specs.Opening.{request_read}
-use Rattle.opening.specs.declared.Request.{Request}
+use Rattle.opening.specs.Opening.{request_read, Request}
 use Rattle.open_end.specs.declared.answers.Said.{Said}
 use Rattle.open_end.specs.OpenEnd.{arrived_at, buffered_at}
 use Rattle.unit.specs.declared.ControlUnit.{ControlUnit}
