@@ -43,14 +43,14 @@ split w a b =
 
 -- two time calls, and all of that time: 8 in the first, 8 in the second, or none
 data Adds (c : Connection) (a b : ℕ) : Type 0 where
-  lost-first : elapsed c a ≡ record { told = plainly UsedUp 8; connection = at_rest false 0 }
-      → elapsed c (a + b) ≡ record { told = plainly UsedUp 8; connection = at_rest false 0 } → Adds c a b
-  lost-then : (d : Connection) → elapsed c a ≡ record { told = plainly Good 0; connection = d }
-      → elapsed d b ≡ record { told = plainly UsedUp 8; connection = at_rest false 0 }
-      → elapsed c (a + b) ≡ record { told = plainly UsedUp 8; connection = at_rest false 0 } → Adds c a b
-  none-lost : (d e : Connection) → elapsed c a ≡ record { told = plainly Good 0; connection = d }
-      → elapsed d b ≡ record { told = plainly Good 0; connection = e }
-      → elapsed c (a + b) ≡ record { told = plainly Good 0; connection = e } → Adds c a b
+  lost-first : elapsed c a ≡ record { told = plainly UsedUp 8; left = at_rest false 0 }
+      → elapsed c (a + b) ≡ record { told = plainly UsedUp 8; left = at_rest false 0 } → Adds c a b
+  lost-then : (d : Connection) → elapsed c a ≡ record { told = plainly Good 0; left = d }
+      → elapsed d b ≡ record { told = plainly UsedUp 8; left = at_rest false 0 }
+      → elapsed c (a + b) ≡ record { told = plainly UsedUp 8; left = at_rest false 0 } → Adds c a b
+  none-lost : (d e : Connection) → elapsed c a ≡ record { told = plainly Good 0; left = d }
+      → elapsed d b ≡ record { told = plainly Good 0; left = e }
+      → elapsed c (a + b) ≡ record { told = plainly Good 0; left = e } → Adds c a b
 
 -- while a reply is awaited
 opening-adds : (c : Connection) (a b : ℕ) → (c.phase ≡ 1) ⊎ (c.phase ≡ 2) → Adds c a b
@@ -82,12 +82,12 @@ answered ch n = go (time-outcome ch n)
     go (test-again e w u) = inr refl
 
 module _ (c : Connection) (open' : 3 ≤ c.phase) where
-  record-lost : (ch : Channel) (n : ℕ) → (channel_elapsed ch n).answer ≡ UsedUp → elapsed (holding c ch) n ≡ record { told = plainly UsedUp 8; connection = at_rest false 0 }
+  record-lost : (ch : Channel) (n : ℕ) → (channel_elapsed ch n).answer ≡ UsedUp → elapsed (holding c ch) n ≡ record { told = plainly UsedUp 8; left = at_rest false 0 }
   unfolding elapsed open_elapsed elapsed_at course_of settled
   record-lost ch n e = rw (ne_eqb c.phase 0 (λ z. omega arith), ne_eqb c.phase 1 (λ z. omega arith), ne_eqb c.phase 2 (λ z. omega arith), e)
 
   record-runs : (ch : Channel) (n : ℕ) → (channel_elapsed ch n).answer ≡ Good
-      → elapsed (holding c ch) n ≡ record { told = plainly Good 0; connection = holding c (channel_elapsed ch n).channel }
+      → elapsed (holding c ch) n ≡ record { told = plainly Good 0; left = holding c (channel_elapsed ch n).channel }
   unfolding elapsed open_elapsed elapsed_at course_of settled
   record-runs ch n e = rw (ne_eqb c.phase 0 (λ z. omega arith), ne_eqb c.phase 1 (λ z. omega arith), ne_eqb c.phase 2 (λ z. omega arith), e)
 
@@ -123,24 +123,24 @@ adds c a b =
     open-adds c (omega arith) a b
 
 -- two time calls leave the record that one leaves of all that time
-pub elapsed-adds : (c : Connection) (a b : ℕ) → (elapsed (elapsed c a).connection b).connection ≡ (elapsed c (a + b)).connection
+pub elapsed-adds : (c : Connection) (a b : ℕ) → (elapsed (elapsed c a).left b).left ≡ (elapsed c (a + b)).left
 elapsed-adds c a b = go (adds c a b)
   where
-    go : Adds c a b → (elapsed (elapsed c a).connection b).connection ≡ (elapsed c (a + b)).connection
+    go : Adds c a b → (elapsed (elapsed c a).left b).left ≡ (elapsed c (a + b)).left
     go (lost-first e f) = rw (e, f, elapsed-closed (at_rest false 0) refl b)
     go (lost-then d e f g) = rw (e, f, g)
     go (none-lost d x e f g) = rw (e, f, g)
 
 -- and one of the two says 8 exactly where that one does
 pub elapsed-adds-8 : (c : Connection) (a b : ℕ)
-    → (((elapsed c a).told.said.number ≡ 8) ⊎ ((elapsed (elapsed c a).connection b).told.said.number ≡ 8)) ↔ ((elapsed c (a + b)).told.said.number ≡ 8)
+    → (((elapsed c a).told.said.number ≡ 8) ⊎ ((elapsed (elapsed c a).left b).told.said.number ≡ 8)) ↔ ((elapsed c (a + b)).told.said.number ≡ 8)
 elapsed-adds-8 c a b = go (adds c a b)
   where
-    go : Adds c a b → (((elapsed c a).told.said.number ≡ 8) ⊎ ((elapsed (elapsed c a).connection b).told.said.number ≡ 8)) ↔ ((elapsed c (a + b)).told.said.number ≡ 8)
+    go : Adds c a b → (((elapsed c a).told.said.number ≡ 8) ⊎ ((elapsed (elapsed c a).left b).told.said.number ≡ 8)) ↔ ((elapsed c (a + b)).told.said.number ≡ 8)
     go (lost-first e f) = (λ _. rw f, λ _. inl (rw e))
     go (lost-then d e f g) = (λ _. rw g, λ _. inr (rw (e, f)))
     go (none-lost d x e f g) = (none, λ z. absurd (omega (arith, rw g at z)))
       where
-        none : ((elapsed c a).told.said.number ≡ 8) ⊎ ((elapsed (elapsed c a).connection b).told.said.number ≡ 8) → (elapsed c (a + b)).told.said.number ≡ 8
+        none : ((elapsed c a).told.said.number ≡ 8) ⊎ ((elapsed (elapsed c a).left b).told.said.number ≡ 8) → (elapsed c (a + b)).told.said.number ≡ 8
         none (inl z) = absurd (omega (arith, rw e at z))
         none (inr z) = absurd (omega (arith, rw (e, f) at z))

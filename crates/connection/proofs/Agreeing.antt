@@ -31,7 +31,7 @@ module _ (c : Connection) (agreeing' : c.phase ≡ 2) where
               id = c.end.transmit;
               payload = record { len = 6; bytes = 0xA0 ∷ c.settings.block ∷ c.settings.t1 ∷ 0xFF ∷ c.settings.t3 ∷ 0xFF ∷ 0 ∷ 0 ∷ [] };
             };
-        connection =
+        left =
             record {
               phase = 2;
               profile = c.profile;
@@ -44,7 +44,7 @@ module _ (c : Connection) (agreeing' : c.phase ≡ 2) where
   unfolding due_of request_due
   due_of-setup m d = rw (agreeing', d)
 
-  pub due_of-setup-out : (m : List ℕ) → c.attempt.due ≡ false → due_of c m ≡ record { told = plainly Good 0; given = false; frame = no_frame; connection = c }
+  pub due_of-setup-out : (m : List ℕ) → c.attempt.due ≡ false → due_of c m ≡ record { told = plainly Good 0; given = false; frame = no_frame; left = c }
   unfolding due_of request_due
   due_of-setup-out m d = rw (agreeing', d)
 
@@ -54,16 +54,16 @@ module _ (c : Connection) (agreeing' : c.phase ≡ 2) where
   buffered-agreeing limit id s b = either (hears c id) (λ h. rw (h, agreeing')) (λ h. rw (h, agreeing'))
 
   -- row 4, "send or take while opening"
-  pub sent_by-agreeing : (limit n : ℕ) → sent_by limit c n ≡ record { told = plainly NotDue 4; connection = c }
+  pub sent_by-agreeing : (limit n : ℕ) → sent_by limit c n ≡ record { told = plainly NotDue 4; left = c }
   unfolding sent_by
   sent_by-agreeing limit n = rw agreeing'
 
-  pub taken_by-agreeing : (room : ℕ) → taken_by c room ≡ record { told = plainly NotDue 4; len = 0; flags = 0; connection = c }
+  pub taken_by-agreeing : (room : ℕ) → taken_by c room ≡ record { told = plainly NotDue 4; len = 0; flags = 0; left = c }
   unfolding taken_by
   taken_by-agreeing room = rw agreeing'
 
   -- from the D0 on the transmit ID is known: close leaves one A8 due on it
-  pub closed-agreeing : closed c ≡ record { told = plainly Good 0; connection = at_rest true c.end.transmit }
+  pub closed-agreeing : closed c ≡ record { told = plainly Good 0; left = at_rest true c.end.transmit }
   unfolding closed
   closed-agreeing = rw agreeing'
 
@@ -77,7 +77,7 @@ module _ (c : Connection) (agreeing' : c.phase ≡ 2) where
         ≡ record {
           told = plainly Good 0;
           padded = false;
-          connection =
+          left =
               record {
                 phase = 3;
                 profile = c.profile;
@@ -123,48 +123,48 @@ module _ (c : Connection) (agreeing' : c.phase ≡ 2) where
         rw (agreeing', eq-eqb _ _ heard, a, ne_eqb b 0 (λ z. omega arith), le-ltb 15 b high, tenths-are c.settings.t1 s, tenths-are t3 t)
 
     -- "A reply before its request was ever handed over gives 4", whatever stands in it
-    pub arrived-accept-early : c.attempt.asked ≡ false → arrived limit c id (0xA1 ∷ b ∷ t1 ∷ t2 ∷ t3 ∷ t4 ∷ []) room ≡ record { told = plainly NotDue 4; padded = false; connection = c }
+    pub arrived-accept-early : c.attempt.asked ≡ false → arrived limit c id (0xA1 ∷ b ∷ t1 ∷ t2 ∷ t3 ∷ t4 ∷ []) room ≡ record { told = plainly NotDue 4; padded = false; left = c }
     unfolding arrived hears listens_on kind_of sorted_by on_agreeing on_accept
     arrived-accept-early a = rw (agreeing', eq-eqb _ _ heard, a)
 
     -- row 2, "A1 block size 0 or over 15": nothing changes
-    pub arrived-accept-none : b ≡ 0 → c.attempt.asked ≡ true → arrived limit c id (0xA1 ∷ b ∷ t1 ∷ t2 ∷ t3 ∷ t4 ∷ []) room ≡ record { told = plainly BlockSize 2; padded = false; connection = c }
+    pub arrived-accept-none : b ≡ 0 → c.attempt.asked ≡ true → arrived limit c id (0xA1 ∷ b ∷ t1 ∷ t2 ∷ t3 ∷ t4 ∷ []) room ≡ record { told = plainly BlockSize 2; padded = false; left = c }
     unfolding arrived hears listens_on kind_of sorted_by on_agreeing on_accept bad_block
     arrived-accept-none z a = rw (agreeing', eq-eqb _ _ heard, a, z)
 
-    pub arrived-accept-over : 15 < b → c.attempt.asked ≡ true → arrived limit c id (0xA1 ∷ b ∷ t1 ∷ t2 ∷ t3 ∷ t4 ∷ []) room ≡ record { told = plainly BlockSize 2; padded = false; connection = c }
+    pub arrived-accept-over : 15 < b → c.attempt.asked ≡ true → arrived limit c id (0xA1 ∷ b ∷ t1 ∷ t2 ∷ t3 ∷ t4 ∷ []) room ≡ record { told = plainly BlockSize 2; padded = false; left = c }
     unfolding arrived hears listens_on kind_of sorted_by on_agreeing on_accept bad_block
     arrived-accept-over o a = rw (agreeing', eq-eqb _ _ heard, a, ne_eqb b 0 (λ z. omega arith), lt-ltb 15 b o)
 
   module _ (limit id room : ℕ) (heard : id ≡ c.end.receive) where
     -- "While A1 is awaited, only A1 and A8 are due kinds": "Disconnect: closed, one A8 due", asked or not
-    pub arrived-agreeing-disconnect : arrived limit c id (0xA8 ∷ []) room ≡ record { told = plainly Disconnected 0; padded = false; connection = at_rest true c.end.transmit }
+    pub arrived-agreeing-disconnect : arrived limit c id (0xA8 ∷ []) room ≡ record { told = plainly Disconnected 0; padded = false; left = at_rest true c.end.transmit }
     unfolding arrived hears listens_on kind_of sorted_by on_agreeing
     arrived-agreeing-disconnect = rw (agreeing', eq-eqb _ _ heard)
 
     -- so a test, a break and an A0 give 4; where the profile has no tests, "A3 and A4 are answer 1" (02, 10: `no-test-awaited`)
-    pub arrived-agreeing-test : c.profile.tests ≡ true → arrived limit c id (0xA3 ∷ []) room ≡ record { told = plainly NotDue 4; padded = false; connection = c }
+    pub arrived-agreeing-test : c.profile.tests ≡ true → arrived limit c id (0xA3 ∷ []) room ≡ record { told = plainly NotDue 4; padded = false; left = c }
     unfolding arrived hears listens_on kind_of sorted_by on_agreeing
     arrived-agreeing-test t = rw (agreeing', eq-eqb _ _ heard, t)
 
-    pub arrived-agreeing-break : c.profile.tests ≡ true → arrived limit c id (0xA4 ∷ []) room ≡ record { told = plainly NotDue 4; padded = false; connection = c }
+    pub arrived-agreeing-break : c.profile.tests ≡ true → arrived limit c id (0xA4 ∷ []) room ≡ record { told = plainly NotDue 4; padded = false; left = c }
     unfolding arrived hears listens_on kind_of sorted_by on_agreeing
     arrived-agreeing-break t = rw (agreeing', eq-eqb _ _ heard, t)
 
-    pub arrived-agreeing-setup : (b t1 t2 t3 t4 : ℕ) → arrived limit c id (0xA0 ∷ b ∷ t1 ∷ t2 ∷ t3 ∷ t4 ∷ []) room ≡ record { told = plainly NotDue 4; padded = false; connection = c }
+    pub arrived-agreeing-setup : (b t1 t2 t3 t4 : ℕ) → arrived limit c id (0xA0 ∷ b ∷ t1 ∷ t2 ∷ t3 ∷ t4 ∷ []) room ≡ record { told = plainly NotDue 4; padded = false; left = c }
     unfolding arrived hears listens_on kind_of sorted_by on_agreeing
     arrived-agreeing-setup b t1 t2 t3 t4 = rw (agreeing', eq-eqb _ _ heard)
 
     -- and a ready Ack, and data of two bytes with AR and EOM, both of number 0
-    pub arrived-agreeing-ack : arrived limit c id (0xB0 ∷ []) room ≡ record { told = plainly NotDue 4; padded = false; connection = c }
+    pub arrived-agreeing-ack : arrived limit c id (0xB0 ∷ []) room ≡ record { told = plainly NotDue 4; padded = false; left = c }
     unfolding arrived hears listens_on kind_of sorted_by on_agreeing
     arrived-agreeing-ack = rw (agreeing', eq-eqb _ _ heard)
 
-    pub arrived-agreeing-data : (x : ℕ) → arrived limit c id (0x10 ∷ x ∷ []) room ≡ record { told = plainly NotDue 4; padded = false; connection = c }
+    pub arrived-agreeing-data : (x : ℕ) → arrived limit c id (0x10 ∷ x ∷ []) room ≡ record { told = plainly NotDue 4; padded = false; left = c }
     unfolding arrived hears listens_on kind_of sorted_by on_agreeing
     arrived-agreeing-data x = rw (agreeing', eq-eqb _ _ heard)
 
     -- what is badly formed gives 1: an A2, an A1 of a byte
-    pub arrived-agreeing-malformed : (arrived limit c id (0xA2 ∷ []) room ≡ record { told = plainly Malformed 1; padded = false; connection = c }) × (arrived limit c id (0xA1 ∷ []) room ≡ record { told = plainly Malformed 1; padded = false; connection = c })
+    pub arrived-agreeing-malformed : (arrived limit c id (0xA2 ∷ []) room ≡ record { told = plainly Malformed 1; padded = false; left = c }) × (arrived limit c id (0xA1 ∷ []) room ≡ record { told = plainly Malformed 1; padded = false; left = c })
     unfolding arrived hears listens_on kind_of sorted_by on_agreeing
     arrived-agreeing-malformed = (rw (agreeing', eq-eqb _ _ heard), rw (agreeing', eq-eqb _ _ heard))

@@ -48,7 +48,7 @@ module _ (c : Connection) (open' : c.phase ≡ 3) where
         ≡ record {
           told = record { answer = ByChannel r.answer; said = record { number = (said r.answer).number; done = (said r.answer).done; opcode = 0 } };
           padded = (sorted_by c.profile (b ∷ p)).padded;
-          connection = holding c r.channel;
+          left = holding c r.channel;
         })
     unfolding arrived hears listens_on on_open arrived_at course_of settled
     arrived-goes-on room h =
@@ -57,7 +57,7 @@ module _ (c : Connection) (open' : c.phase ≡ 3) where
 
     -- 8: "record closed, nothing due"
     pub arrived-used-up : (room : ℕ) → (channel_arrived limit c.end.channel (sorted_by c.profile (b ∷ p)).kind p room).answer ≡ UsedUp
-        → arrived limit c id (b ∷ p) room ≡ record { told = plainly UsedUp 8; padded = (sorted_by c.profile (b ∷ p)).padded; connection = at_rest false 0 }
+        → arrived limit c id (b ∷ p) room ≡ record { told = plainly UsedUp 8; padded = (sorted_by c.profile (b ∷ p)).padded; left = at_rest false 0 }
     unfolding arrived hears listens_on on_open arrived_at course_of settled
     arrived-used-up room e = rw (open', eq-eqb _ _ heard, e)
 
@@ -70,7 +70,7 @@ module _ (c : Connection) (open' : c.phase ≡ 3) where
 
   -- "Disconnect: closed, one A8 due", on the transmit ID
   pub arrived-disconnect : (limit id room : ℕ) → id ≡ c.end.receive
-      → arrived limit c id (0xA8 ∷ []) room ≡ record { told = plainly Disconnected 0; padded = false; connection = at_rest true c.end.transmit }
+      → arrived limit c id (0xA8 ∷ []) room ≡ record { told = plainly Disconnected 0; padded = false; left = at_rest true c.end.transmit }
   unfolding arrived hears listens_on on_open arrived_at channel_arrived answered kind_of sorted_by course_of settled
   arrived-disconnect limit id room heard = rw (open', eq-eqb _ _ heard)
 
@@ -82,12 +82,12 @@ module _ (c : Connection) (open' : c.phase ≡ 3) where
   -- ---- time passes
 
   pub elapsed-open : (n : ℕ) → (channel_elapsed c.end.channel n).answer ≡ Good
-      → elapsed c n ≡ record { told = plainly Good 0; connection = holding c (channel_elapsed c.end.channel n).channel }
+      → elapsed c n ≡ record { told = plainly Good 0; left = holding c (channel_elapsed c.end.channel n).channel }
   unfolding elapsed open_elapsed elapsed_at course_of settled
   elapsed-open n e = rw (open', e)
 
   -- 8: "record closed, nothing due"
-  pub elapsed-used-up : (n : ℕ) → (channel_elapsed c.end.channel n).answer ≡ UsedUp → elapsed c n ≡ record { told = plainly UsedUp 8; connection = at_rest false 0 }
+  pub elapsed-used-up : (n : ℕ) → (channel_elapsed c.end.channel n).answer ≡ UsedUp → elapsed c n ≡ record { told = plainly UsedUp 8; left = at_rest false 0 }
   unfolding elapsed open_elapsed elapsed_at course_of settled
   elapsed-used-up n e = rw (open', e)
 
@@ -101,7 +101,7 @@ module _ (c : Connection) (open' : c.phase ≡ 3) where
         told = record { answer = ByChannel d.answer; said = record { number = (said d.answer).number; done = (said d.answer).done; opcode = 0 } };
         given = true;
         frame = record { id = c.end.transmit; payload = d.payload };
-        connection = holding c d.channel;
+        left = holding c d.channel;
       })
   unfolding due_of open_due due_at frame_on
   due_of-given m g = rw (open', g)
@@ -114,7 +114,7 @@ module _ (c : Connection) (open' : c.phase ≡ 3) where
         told = record { answer = ByChannel d.answer; said = record { number = (said d.answer).number; done = (said d.answer).done; opcode = 0 } };
         given = false;
         frame = no_frame;
-        connection = holding c d.channel;
+        left = holding c d.channel;
       })
   unfolding due_of open_due due_at frame_on
   due_of-none m g = rw (open', g)
@@ -125,17 +125,17 @@ module _ (c : Connection) (open' : c.phase ≡ 3) where
       sent_by limit c n
       ≡ record {
         told = record { answer = ByChannel r.answer; said = record { number = (said r.answer).number; done = (said r.answer).done; opcode = 0 } };
-        connection = holding c r.channel;
+        left = holding c r.channel;
       })
   unfolding sent_by open_sent sent_at
   sent_by-open limit n = rw open'
 
   -- row 5, "take with none complete"; then row 7, "lent buffer shorter than the declared length": nothing changes
-  pub taken_by-none : (room : ℕ) → c.end.channel.receiver.complete.length ≡ 0 → taken_by c room ≡ record { told = plainly Busy 5; len = 0; flags = 0; connection = c }
+  pub taken_by-none : (room : ℕ) → c.end.channel.receiver.complete.length ≡ 0 → taken_by c room ≡ record { told = plainly Busy 5; len = 0; flags = 0; left = c }
   unfolding taken_by open_taken taken_at took
   taken_by-none room z = rw (open', z)
 
-  pub taken_by-short : (room : ℕ) → room < c.end.channel.receiver.complete.length → taken_by c room ≡ record { told = plainly ShortBuffer 7; len = 0; flags = 0; connection = c }
+  pub taken_by-short : (room : ℕ) → room < c.end.channel.receiver.complete.length → taken_by c room ≡ record { told = plainly ShortBuffer 7; len = 0; flags = 0; left = c }
   unfolding taken_by open_taken taken_at took
   taken_by-short room h = rw (open', lt-ltb 0 c.end.channel.receiver.complete.length (omega arith), lt-ltb _ _ h)
 
@@ -147,7 +147,7 @@ module _ (c : Connection) (open' : c.phase ≡ 3) where
         told = plainly Good 0;
         len = r.complete.length;
         flags = r.complete.flags;
-        connection =
+        left =
             holding c
             (record {
               parameters = c.end.channel.parameters;
@@ -161,6 +161,6 @@ module _ (c : Connection) (open' : c.phase ≡ 3) where
   taken_by-shown room some fits = rw (open', lt-ltb 0 c.end.channel.receiver.complete.length some, le-ltb _ _ fits)
 
   -- "Close drops what is unfinished and leaves one A8 due"
-  pub closed-open : closed c ≡ record { told = plainly Good 0; connection = at_rest true c.end.transmit }
+  pub closed-open : closed c ≡ record { told = plainly Good 0; left = at_rest true c.end.transmit }
   unfolding closed
   closed-open = rw open'

@@ -28,7 +28,7 @@ use Rattle.open_end.specs.OpenEnd.{course_of, arrived_at, buffered_at}
 use Rattle.open_end.specs.Padding.{AltersNothing}
 use Rattle.open_end.proofs.Padding.{Passes, no_seven, unsorted-alters, sorted-alters, open-alters}
 use Rattle.connection.specs.declared.Connection.{Connection}
-use Rattle.connection.specs.declared.Answered.{Answered}
+use Rattle.open_end.specs.declared.answers.Answered.{Answered}
 use Rattle.connection.specs.Record.{is_closed, is_requesting, is_agreeing, hears}
 use Rattle.connection.specs.Calls.{on_reply, on_accept, on_agreeing, settled, on_open, arrived, buffered}
 use Rattle.connection.specs.Padding.{comes_to, PaddingAltersNothing}
@@ -54,8 +54,8 @@ agreeing-passes c test = refl
 agreeing-passes c break = refl
 agreeing-passes c disconnect = refl
 agreeing-passes c (accept p t2 t4) =
-    by-not (λ (r : Answered). Passes r.told.said.number) c.attempt.asked (λ _. refl) λ _.
-    by (λ (r : Answered). Passes r.told.said.number) (bad_block p.block) (λ _. refl) λ _. refl
+    by-not (λ (r : Answered Connection). Passes r.told.said.number) c.attempt.asked (λ _. refl) λ _.
+    by (λ (r : Answered Connection). Passes r.told.said.number) (bad_block p.block) (λ _. refl) λ _. refl
 
 module _ (limit : ℕ) (c : Connection) (id : ℕ) (buffer own content : List ℕ) (t : Telegram) (k : Fillable own t) (l : length (own ++ content) ≡ 8) where
   abbrev Alters : Type 0
@@ -84,7 +84,7 @@ module _ (limit : ℕ) (c : Connection) (id : ℕ) (buffer own content : List �
           agreeing-alters : is_agreeing c ≡ true → Alters
           unfolding arrived buffered
           agreeing-alters agr =
-              sorted-alters k content l (eqb-false c.phase 0 closed) (λ u. (on_agreeing c u).told) (λ u. (on_agreeing c u).connection) buffer
+              sorted-alters k content l (eqb-false c.phase 0 closed) (λ u. (on_agreeing c u).told) (λ u. (on_agreeing c u).left) buffer
               (rw (closed, heard, req, agr, same)) (rw (closed, heard, req, agr, same')) (agreeing-passes c k)
 
           end-alters : is_agreeing c ≡ false → Alters

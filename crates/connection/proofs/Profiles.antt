@@ -27,7 +27,7 @@ use Rattle.connection.specs.Calls.{opening_as, on_reply, on_agreeing, settled, o
 
 -- each row's opening with its defaults: the ID and the bytes of the C0
 abbrev first_frame : Profile → ℕ × List ℕ
-first_frame p = (let d = due_of (opening_as closed_record p (defaults16 p)).connection [] in (d.frame.id, bytes_of d.frame.payload))
+first_frame p = (let d = due_of (opening_as closed_record p (defaults16 p)).left [] in (d.frame.id, bytes_of d.frame.payload))
 
 -- drive's goes out on 0x200, the others' on 0x2D0 (001, table 1); to the lowest unit (table 3), naming the lowest receive ID without its offset (table 5)
 pub rows-ask : map first_frame (drive ∷ comfort ∷ high ∷ low ∷ [])
@@ -37,7 +37,7 @@ rows-ask = refl
 
 -- what a reply on an ID is answered then
 abbrev answer : Profile → (id : ℕ) → List ℕ → ℕ
-answer p id s = (arrived 1024 (due_of (opening_as closed_record p (defaults16 p)).connection []).connection id s 0).told.said.number
+answer p id s = (arrived 1024 (due_of (opening_as closed_record p (defaults16 p)).left []).left id s 0).told.said.number
 
 -- the reply comes from 0x200, 0x2E0, 0x4D0 and 0x4D0 (table 2: 0x4A0 + 0x30); another ID is answered 3: 0x200 in comfort, 0x4A0 in infotainment (of all IDs: arrived-other-id-1)
 pub rows-listen :
@@ -75,17 +75,17 @@ module _ (c : Connection) (none : c.profile.tests ≡ false) (limit room : ℕ) 
   no-telegram (filled-break content l) = (no-break c.profile none).1 content l
 
   -- while the A1 is awaited
-  pub no-test-awaited : (s : List ℕ) → TestOrBreak s → c.phase ≡ 2 → arrived limit c c.end.receive s room ≡ record { told = plainly Malformed 1; padded = false; connection = c }
+  pub no-test-awaited : (s : List ℕ) → TestOrBreak s → c.phase ≡ 2 → arrived limit c c.end.receive s room ≡ record { told = plainly Malformed 1; padded = false; left = c }
   unfolding arrived hears listens_on on_agreeing
   no-test-awaited s t p = rw (p, eq-eqb c.end.receive _ refl, no-telegram t)
 
   -- and on an open connection
-  pub no-test-open : (s : List ℕ) → TestOrBreak s → c.phase ≡ 3 → arrived limit c c.end.receive s room ≡ record { told = plainly Malformed 1; padded = false; connection = c }
+  pub no-test-open : (s : List ℕ) → TestOrBreak s → c.phase ≡ 3 → arrived limit c c.end.receive s room ≡ record { told = plainly Malformed 1; padded = false; left = c }
   unfolding arrived hears listens_on on_open arrived_at channel_arrived answered course_of settled
   no-test-open s t p = rw (p, eq-eqb c.end.receive _ refl, no-telegram t)
 
   -- no test is out (`untested` of reachable), so an A1 on an open connection gives 4
   pub no-answer-open : c.phase ≡ 3 → c.end.channel.tests.out ≡ false → (block t1 t2 t3 t4 : ℕ)
-      → arrived limit c c.end.receive (0xA1 ∷ block ∷ t1 ∷ t2 ∷ t3 ∷ t4 ∷ []) room ≡ record { told = plainly NotDue 4; padded = false; connection = c }
+      → arrived limit c c.end.receive (0xA1 ∷ block ∷ t1 ∷ t2 ∷ t3 ∷ t4 ∷ []) room ≡ record { told = plainly NotDue 4; padded = false; left = c }
   unfolding arrived hears listens_on kind_of sorted_by on_open arrived_at channel_arrived channel_accept answered course_of settled
   no-answer-open p o block t1 t2 t3 t4 = rw (p, eq-eqb c.end.receive _ refl, none, o)

@@ -87,19 +87,19 @@ module _ (c : Connection) (closed' : c.phase ≡ 0) where
   hears-closed id = rw closed'
 
   -- "any frame, send, take or close on a closed record" gives 4, and nothing changes
-  pub arrived-closed : (limit id : ℕ) (s : List ℕ) (room : ℕ) → arrived limit c id s room ≡ record { told = plainly NotDue 4; padded = false; connection = c }
+  pub arrived-closed : (limit id : ℕ) (s : List ℕ) (room : ℕ) → arrived limit c id s room ≡ record { told = plainly NotDue 4; padded = false; left = c }
   unfolding arrived
   arrived-closed limit id s room = rw closed'
 
-  pub sent_by-closed : (limit n : ℕ) → sent_by limit c n ≡ record { told = plainly NotDue 4; connection = c }
+  pub sent_by-closed : (limit n : ℕ) → sent_by limit c n ≡ record { told = plainly NotDue 4; left = c }
   unfolding sent_by
   sent_by-closed limit n = rw closed'
 
-  pub taken_by-closed : (room : ℕ) → taken_by c room ≡ record { told = plainly NotDue 4; len = 0; flags = 0; connection = c }
+  pub taken_by-closed : (room : ℕ) → taken_by c room ≡ record { told = plainly NotDue 4; len = 0; flags = 0; left = c }
   unfolding taken_by
   taken_by-closed room = rw closed'
 
-  pub closed-closed : closed c ≡ record { told = plainly NotDue 4; connection = c }
+  pub closed-closed : closed c ≡ record { told = plainly NotDue 4; left = c }
   unfolding closed
   closed-closed = rw closed'
 
@@ -109,11 +109,11 @@ module _ (c : Connection) (closed' : c.phase ≡ 0) where
   buffered-closed limit id s b = rw closed'
 
   -- "Time and due calls are good in every state: with nothing due the answer is 0 and no frame"
-  pub elapsed-closed : (n : ℕ) → elapsed c n ≡ record { told = plainly Good 0; connection = c }
+  pub elapsed-closed : (n : ℕ) → elapsed c n ≡ record { told = plainly Good 0; left = c }
   unfolding elapsed
   elapsed-closed n = rw closed'
 
-  pub due_of-closed : (m : List ℕ) → c.leaving ≡ false → due_of c m ≡ record { told = plainly Good 0; given = false; frame = no_frame; connection = c }
+  pub due_of-closed : (m : List ℕ) → c.leaving ≡ false → due_of c m ≡ record { told = plainly Good 0; given = false; frame = no_frame; left = c }
   unfolding due_of closed_due
   due_of-closed m l = rw (closed', l)
 
@@ -124,7 +124,7 @@ module _ (c : Connection) (closed' : c.phase ≡ 0) where
         told = plainly Good 0;
         given = true;
         frame = record { id = c.end.transmit; payload = record { len = 1; bytes = 0xA8 ∷ 0 ∷ 0 ∷ 0 ∷ 0 ∷ 0 ∷ 0 ∷ 0 ∷ [] } };
-        connection = at_rest false 0;
+        left = at_rest false 0;
       }
   unfolding due_of closed_due
   due_of-leaving m l = rw (closed', l)
@@ -136,7 +136,7 @@ pub opening_as-leaves : (c : Connection) (p : Profile) (s : Settings) → c.phas
     → opening_as c p s
     ≡ record {
       told = plainly Good 0;
-      connection =
+      left =
           record {
             phase = 1;
             profile = p;
@@ -150,13 +150,13 @@ unfolding opening_as
 opening_as-leaves c p s z a = rw (z, a)
 
 -- "Open: 4 if not closed", whatever the profile and the settings
-pub opening_as-not-closed : (c : Connection) (p : Profile) (s : Settings) → c.phase ≢ 0 → opening_as c p s ≡ record { told = plainly NotDue 4; connection = c }
+pub opening_as-not-closed : (c : Connection) (p : Profile) (s : Settings) → c.phase ≢ 0 → opening_as c p s ≡ record { told = plainly NotDue 4; left = c }
 unfolding opening_as
 opening_as-not-closed c p s n = rw (ne_eqb c.phase 0 n)
 
 -- "then 10": nothing changes, and an A8 that was due stays due
 pub opening_as-out-of-range : (c : Connection) (p : Profile) (s : Settings) → c.phase ≡ 0 → allowed_by p s ≡ false
-    → opening_as c p s ≡ record { told = record { answer = OutOfRange; said = record { number = 10; done = false; opcode = 0 } }; connection = c }
+    → opening_as c p s ≡ record { told = record { answer = OutOfRange; said = record { number = 10; done = false; opcode = 0 } }; left = c }
 unfolding opening_as
 opening_as-out-of-range c p s z a = rw (z, a)
 
@@ -168,7 +168,7 @@ pub opening-leaves : (c : Connection) (s : Settings) → c.phase ≡ 0 → allow
     → opening c s
     ≡ record {
       told = plainly Good 0;
-      connection =
+      left =
           record {
             phase = 1;
             profile = plain;
@@ -184,13 +184,13 @@ opening-leaves c s = opening_as-leaves c plain s
 
 -- "The ID asked by 3 is 0x200 + unit until D0": the profile's, 0x200 in TP 2.0
 pub arrived-other-id-1 : (limit : ℕ) (c : Connection) (id : ℕ) (s : List ℕ) (room : ℕ) → c.phase ≡ 1 → id ≢ c.profile.reply + c.settings.unit
-    → arrived limit c id s room ≡ record { told = record { answer = OtherId; said = record { number = 3; done = false; opcode = 0 } }; padded = false; connection = c }
+    → arrived limit c id s room ≡ record { told = record { answer = OtherId; said = record { number = 3; done = false; opcode = 0 } }; padded = false; left = c }
 unfolding arrived hears listens_on
 arrived-other-id-1 limit c id s room p other = rw (p, ne_eqb id (c.profile.reply + c.settings.unit) other)
 
 -- "then our receive ID"
 pub arrived-other-id : (limit : ℕ) (c : Connection) (id : ℕ) (s : List ℕ) (room : ℕ) → 2 ≤ c.phase → id ≢ c.end.receive
-    → arrived limit c id s room ≡ record { told = record { answer = OtherId; said = record { number = 3; done = false; opcode = 0 } }; padded = false; connection = c }
+    → arrived limit c id s room ≡ record { told = record { answer = OtherId; said = record { number = 3; done = false; opcode = 0 } }; padded = false; left = c }
 unfolding arrived hears listens_on
 arrived-other-id limit c id s room p other =
     rw (ne_eqb c.phase 0 (λ e. omega arith), ne_eqb c.phase 1 (λ e. omega arith), ne_eqb id c.end.receive other)
@@ -225,7 +225,7 @@ module _ (c : Connection) (requesting' : c.phase ≡ 1) where
                     bytes = c.settings.unit ∷ 0xC0 ∷ 0x00 ∷ 0x10 ∷ c.settings.receive % 256 ∷ c.settings.receive / 256 % 8 ∷ 0x01 ∷ 0 ∷ [];
                   };
             };
-        connection = asked;
+        left = asked;
       }
   unfolding due_of request_due request_for
   due_of-request m t d = rw (requesting', d, t)
@@ -237,12 +237,12 @@ module _ (c : Connection) (requesting' : c.phase ≡ 1) where
         told = plainly Good 0;
         given = true;
         frame = record { id = c.profile.request; payload = record { len = 3; bytes = c.settings.unit ∷ 0xC0 ∷ c.settings.receive % 256 ∷ 0 ∷ 0 ∷ 0 ∷ 0 ∷ 0 ∷ [] } };
-        connection = asked;
+        left = asked;
       }
   unfolding due_of request_due request_for
   due_of-request-16 m t d = rw (requesting', d, t)
 
-  pub due_of-requested : (m : List ℕ) → c.attempt.due ≡ false → due_of c m ≡ record { told = plainly Good 0; given = false; frame = no_frame; connection = c }
+  pub due_of-requested : (m : List ℕ) → c.attempt.due ≡ false → due_of c m ≡ record { told = plainly Good 0; given = false; frame = no_frame; left = c }
   unfolding due_of request_due
   due_of-requested m d = rw (requesting', d)
 
@@ -264,7 +264,7 @@ module _ (c : Connection) (requesting' : c.phase ≡ 1) where
     module _ (tp20 : c.profile ≡ plain) where
       -- the reply 00, D0, our receive ID, our transmit ID, 01
       pub arrived-positive : (low high tlow thigh : ℕ) → high < 8 → low + 256 * high ≡ c.settings.receive → tlow < 256 → thigh < 8 → c.attempt.asked ≡ true
-          → arrived limit c id (0x00 ∷ 0xD0 ∷ low ∷ high ∷ tlow ∷ thigh ∷ 0x01 ∷ []) room ≡ record { told = plainly Good 0; padded = false; connection = answered (tlow + 256 * thigh) }
+          → arrived limit c id (0x00 ∷ 0xD0 ∷ low ∷ high ∷ tlow ∷ thigh ∷ 0x01 ∷ []) room ≡ record { told = plainly Good 0; padded = false; left = answered (tlow + 256 * thigh) }
       unfolding arrived hears listens_on reply_read reply_for named within on_reply
       arrived-positive low high tlow thigh h own l t a =
           let whole : 0 + (tlow + 256 * thigh) ≡ tlow + 256 * thigh = omega arith in
@@ -272,7 +272,7 @@ module _ (c : Connection) (requesting' : c.phase ≡ 1) where
 
       -- "A reply before its request was ever handed over gives 4"
       pub arrived-positive-early : (low high tlow thigh : ℕ) → high < 8 → low + 256 * high ≡ c.settings.receive → tlow < 256 → thigh < 8 → c.attempt.asked ≡ false
-          → arrived limit c id (0x00 ∷ 0xD0 ∷ low ∷ high ∷ tlow ∷ thigh ∷ 0x01 ∷ []) room ≡ record { told = plainly NotDue 4; padded = false; connection = c }
+          → arrived limit c id (0x00 ∷ 0xD0 ∷ low ∷ high ∷ tlow ∷ thigh ∷ 0x01 ∷ []) room ≡ record { told = plainly NotDue 4; padded = false; left = c }
       unfolding arrived hears listens_on reply_read reply_for named within on_reply
       arrived-positive-early low high tlow thigh h own l t a =
           let whole : 0 + (tlow + 256 * thigh) ≡ tlow + 256 * thigh = omega arith in
@@ -281,27 +281,27 @@ module _ (c : Connection) (requesting' : c.phase ≡ 1) where
       -- "D6 .., D7 .., D8 .. end the opening at once; of these only length, byte 0 and opcode are checked": 11 with that opcode, "record closed, nothing due"
       pub arrived-refused : (opcode x y z w v : ℕ) → (opcode ≡ 0xD6) ⊎ ((opcode ≡ 0xD7) ⊎ (opcode ≡ 0xD8)) → c.attempt.asked ≡ true
           → arrived limit c id (0x00 ∷ opcode ∷ x ∷ y ∷ z ∷ w ∷ v ∷ []) room
-          ≡ record { told = record { answer = Refused opcode; said = record { number = 11; done = false; opcode = opcode } }; padded = false; connection = at_rest false 0 }
+          ≡ record { told = record { answer = Refused opcode; said = record { number = 11; done = false; opcode = opcode } }; padded = false; left = at_rest false 0 }
       unfolding arrived hears listens_on reply_read reply_for named on_reply
       arrived-refused opcode x y z w v (inl e) a = rw (requesting', eq-eqb _ _ heard, tp20, e, a)
       arrived-refused opcode x y z w v (inr (inl e)) a = rw (requesting', eq-eqb _ _ heard, tp20, e, a)
       arrived-refused opcode x y z w v (inr (inr e)) a = rw (requesting', eq-eqb _ _ heard, tp20, e, a)
 
       pub arrived-refused-early : (opcode x y z w v : ℕ) → (opcode ≡ 0xD6) ⊎ ((opcode ≡ 0xD7) ⊎ (opcode ≡ 0xD8)) → c.attempt.asked ≡ false
-          → arrived limit c id (0x00 ∷ opcode ∷ x ∷ y ∷ z ∷ w ∷ v ∷ []) room ≡ record { told = plainly NotDue 4; padded = false; connection = c }
+          → arrived limit c id (0x00 ∷ opcode ∷ x ∷ y ∷ z ∷ w ∷ v ∷ []) room ≡ record { told = plainly NotDue 4; padded = false; left = c }
       unfolding arrived hears listens_on reply_read reply_for named on_reply
       arrived-refused-early opcode x y z w v (inl e) a = rw (requesting', eq-eqb _ _ heard, tp20, e, a)
       arrived-refused-early opcode x y z w v (inr (inl e)) a = rw (requesting', eq-eqb _ _ heard, tp20, e, a)
       arrived-refused-early opcode x y z w v (inr (inr e)) a = rw (requesting', eq-eqb _ _ heard, tp20, e, a)
 
       -- "All else from that ID is badly formed": what has not seven bytes gives 1, asked or not
-      pub arrived-other-length : (s : List ℕ) → length s ≢ 7 → arrived limit c id s room ≡ record { told = plainly Malformed 1; padded = false; connection = c }
+      pub arrived-other-length : (s : List ℕ) → length s ≢ 7 → arrived limit c id s room ≡ record { told = plainly Malformed 1; padded = false; left = c }
       unfolding arrived hears listens_on reply_read reply_for named on_reply
       arrived-other-length s other = rw (requesting', eq-eqb _ _ heard, tp20, ne_eqb (length s) 7 other)
 
       -- and a positive reply that gives another receive ID back
       pub arrived-other-back : (low high tlow thigh : ℕ) → low + 256 * high ≢ c.settings.receive
-          → arrived limit c id (0x00 ∷ 0xD0 ∷ low ∷ high ∷ tlow ∷ thigh ∷ 0x01 ∷ []) room ≡ record { told = plainly Malformed 1; padded = false; connection = c }
+          → arrived limit c id (0x00 ∷ 0xD0 ∷ low ∷ high ∷ tlow ∷ thigh ∷ 0x01 ∷ []) room ≡ record { told = plainly Malformed 1; padded = false; left = c }
       unfolding arrived hears listens_on reply_read reply_for named on_reply
       arrived-other-back low high tlow thigh other =
           rw (requesting', eq-eqb _ _ heard, tp20, ne_eqb (low + 256 * high) c.settings.receive other, and-off' (clear high) false refl)
@@ -311,52 +311,52 @@ module _ (c : Connection) (requesting' : c.phase ≡ 1) where
     module _ (three : c.profile.short ≡ true) where
       -- 00, D0, channel ID: it is added to the offset, and the sum lies in the profile's range
       pub arrived-positive-16 : (b : ℕ) → c.profile.transmits.least ≤ c.profile.offset + b → c.profile.offset + b ≤ c.profile.transmits.most → c.attempt.asked ≡ true
-          → arrived limit c id (0x00 ∷ 0xD0 ∷ b ∷ []) room ≡ record { told = plainly Good 0; padded = false; connection = answered (c.profile.offset + b) }
+          → arrived limit c id (0x00 ∷ 0xD0 ∷ b ∷ []) room ≡ record { told = plainly Good 0; padded = false; left = answered (c.profile.offset + b) }
       unfolding arrived hears listens_on short_reply_read reply_for named within on_reply
       arrived-positive-16 b least most a = rw (requesting', eq-eqb _ _ heard, three, le-leb _ _ least, le-leb _ _ most, a)
 
       -- before the C0 was ever handed over it gives 4
       pub arrived-positive-early-16 : (b : ℕ) → c.profile.transmits.least ≤ c.profile.offset + b → c.profile.offset + b ≤ c.profile.transmits.most → c.attempt.asked ≡ false
-          → arrived limit c id (0x00 ∷ 0xD0 ∷ b ∷ []) room ≡ record { told = plainly NotDue 4; padded = false; connection = c }
+          → arrived limit c id (0x00 ∷ 0xD0 ∷ b ∷ []) room ≡ record { told = plainly NotDue 4; padded = false; left = c }
       unfolding arrived hears listens_on short_reply_read reply_for named within on_reply
       arrived-positive-early-16 b least most a = rw (requesting', eq-eqb _ _ heard, three, le-leb _ _ least, le-leb _ _ most, a)
 
       -- "an ID in a reply [outside is] answer 1", below the range and beyond it, asked or not
       pub arrived-below-16 : (b : ℕ) → c.profile.offset + b < c.profile.transmits.least
-          → arrived limit c id (0x00 ∷ 0xD0 ∷ b ∷ []) room ≡ record { told = plainly Malformed 1; padded = false; connection = c }
+          → arrived limit c id (0x00 ∷ 0xD0 ∷ b ∷ []) room ≡ record { told = plainly Malformed 1; padded = false; left = c }
       unfolding arrived hears listens_on short_reply_read reply_for named within on_reply
       arrived-below-16 b below = rw (requesting', eq-eqb _ _ heard, three, lt-leb _ _ below)
 
       pub arrived-beyond-16 : (b : ℕ) → c.profile.transmits.most < c.profile.offset + b
-          → arrived limit c id (0x00 ∷ 0xD0 ∷ b ∷ []) room ≡ record { told = plainly Malformed 1; padded = false; connection = c }
+          → arrived limit c id (0x00 ∷ 0xD0 ∷ b ∷ []) room ≡ record { told = plainly Malformed 1; padded = false; left = c }
       unfolding arrived hears listens_on short_reply_read reply_for named within on_reply
       arrived-beyond-16 b beyond = rw (requesting', eq-eqb _ _ heard, three, lt-leb _ _ beyond, and-false)
 
       -- "negative reply D8 only": 11 with that opcode, whatever byte is behind it; before the C0 was handed over 4
       pub arrived-refused-16 : (b : ℕ) → c.attempt.asked ≡ true
           → arrived limit c id (0x00 ∷ 0xD8 ∷ b ∷ []) room
-          ≡ record { told = record { answer = Refused 0xD8; said = record { number = 11; done = false; opcode = 0xD8 } }; padded = false; connection = at_rest false 0 }
+          ≡ record { told = record { answer = Refused 0xD8; said = record { number = 11; done = false; opcode = 0xD8 } }; padded = false; left = at_rest false 0 }
       unfolding arrived hears listens_on short_reply_read reply_for named on_reply
       arrived-refused-16 b a = rw (requesting', eq-eqb _ _ heard, three, a)
 
       pub arrived-refused-early-16 : (b : ℕ) → c.attempt.asked ≡ false
-          → arrived limit c id (0x00 ∷ 0xD8 ∷ b ∷ []) room ≡ record { told = plainly NotDue 4; padded = false; connection = c }
+          → arrived limit c id (0x00 ∷ 0xD8 ∷ b ∷ []) room ≡ record { told = plainly NotDue 4; padded = false; left = c }
       unfolding arrived hears listens_on short_reply_read reply_for named on_reply
       arrived-refused-early-16 b a = rw (requesting', eq-eqb _ _ heard, three, a)
 
       -- so every other opcode gives 1, D6 and D7 too
       pub arrived-other-opcode-16 : (opcode b : ℕ) → opcode ≢ 0xD0 → opcode ≢ 0xD8
-          → arrived limit c id (0x00 ∷ opcode ∷ b ∷ []) room ≡ record { told = plainly Malformed 1; padded = false; connection = c }
+          → arrived limit c id (0x00 ∷ opcode ∷ b ∷ []) room ≡ record { told = plainly Malformed 1; padded = false; left = c }
       unfolding arrived hears listens_on short_reply_read reply_for named on_reply
       arrived-other-opcode-16 opcode b not-d0 not-d8 = rw (requesting', eq-eqb _ _ heard, three, ne_eqb opcode 0xD8 not-d8, ne_eqb opcode 0xD0 not-d0)
 
       -- and what has not three bytes, or a first byte that is not 00
-      pub arrived-other-length-16 : (s : List ℕ) → length s ≢ 3 → arrived limit c id s room ≡ record { told = plainly Malformed 1; padded = false; connection = c }
+      pub arrived-other-length-16 : (s : List ℕ) → length s ≢ 3 → arrived limit c id s room ≡ record { told = plainly Malformed 1; padded = false; left = c }
       unfolding arrived hears listens_on short_reply_read reply_for named on_reply
       arrived-other-length-16 s other = rw (requesting', eq-eqb _ _ heard, three, ne_eqb (length s) 3 other)
 
       pub arrived-other-first-16 : (first opcode b : ℕ) → first ≢ 0x00
-          → arrived limit c id (first ∷ opcode ∷ b ∷ []) room ≡ record { told = plainly Malformed 1; padded = false; connection = c }
+          → arrived limit c id (first ∷ opcode ∷ b ∷ []) room ≡ record { told = plainly Malformed 1; padded = false; left = c }
       unfolding arrived hears listens_on short_reply_read reply_for named on_reply
       arrived-other-first-16 first opcode b other = rw (requesting', eq-eqb _ _ heard, three, ne_eqb first 0x00 other)
 
@@ -366,15 +366,15 @@ module _ (c : Connection) (requesting' : c.phase ≡ 1) where
   buffered-requesting limit id s b = either (hears c id) (λ h. rw (h, requesting')) (λ h. rw (h, requesting'))
 
   -- row 4, "send or take while opening"
-  pub sent_by-requesting : (limit n : ℕ) → sent_by limit c n ≡ record { told = plainly NotDue 4; connection = c }
+  pub sent_by-requesting : (limit n : ℕ) → sent_by limit c n ≡ record { told = plainly NotDue 4; left = c }
   unfolding sent_by
   sent_by-requesting limit n = rw requesting'
 
-  pub taken_by-requesting : (room : ℕ) → taken_by c room ≡ record { told = plainly NotDue 4; len = 0; flags = 0; connection = c }
+  pub taken_by-requesting : (room : ℕ) → taken_by c room ≡ record { told = plainly NotDue 4; len = 0; flags = 0; left = c }
   unfolding taken_by
   taken_by-requesting room = rw requesting'
 
   -- "leaves one A8 due if the transmit ID is known, else nothing": before the D0 it isn't
-  pub closed-requesting : closed c ≡ record { told = plainly Good 0; connection = at_rest false 0 }
+  pub closed-requesting : closed c ≡ record { told = plainly Good 0; left = at_rest false 0 }
   unfolding closed
   closed-requesting = rw requesting'

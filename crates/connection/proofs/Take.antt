@@ -14,14 +14,14 @@ use Rattle.open_end.proofs.Take.{taken-leaves}
 use Rattle.connection.specs.Record.{is_open, with_open_end}
 use Rattle.connection.specs.Calls.{open_taken, taken_by, takes}
 use Rattle.connection.specs.declared.Connection.{Connection}
-use Rattle.connection.specs.declared.TakeStep.{TakeStep}
+use Rattle.open_end.specs.declared.answers.TakeStep.{TakeStep}
 
 module _ (c : Connection) (room : ℕ) where
   -- what a take leaves: with 0 the complete message is shown, whole and with its flags, and waits no more; with any other number none is shown, and nothing changes
-  pub record Leaves (t : TakeStep) : Type 0 where
+  pub record Leaves (t : TakeStep Connection) : Type 0 where
     pub within : t.len ≤ room
-    pub shown : t.told.said.number ≡ 0 → (record { length = t.len; flags = t.flags } ≡ c.end.channel.receiver.complete) × (waiting t.connection.end.channel.receiver ≡ false)
-    pub refuses : (t.told.said.number ≡ 0 → ⊥) → (record { length = t.len; flags = t.flags } ≡ none) × (t.connection ≡ c)
+    pub shown : t.told.said.number ≡ 0 → (record { length = t.len; flags = t.flags } ≡ c.end.channel.receiver.complete) × (waiting t.left.end.channel.receiver ≡ false)
+    pub refuses : (t.told.said.number ≡ 0 → ⊥) → (record { length = t.len; flags = t.flags } ≡ none) × (t.left ≡ c)
 
   pub take-leaves : Leaves (taken_by c room)
   unfolding taken_by open_taken

@@ -28,7 +28,7 @@ module _ (c : Connection) (n : ℕ) (opening : (c.phase ≡ 1) ⊎ (c.phase ≡ 
       go (inr p) = rw p
 
   -- a request that is still to be handed over waits for nothing
-  pub elapsed-no-wait : c.attempt.wait ≡ 0 → elapsed c n ≡ record { told = plainly Good 0; connection = c }
+  pub elapsed-no-wait : c.attempt.wait ≡ 0 → elapsed c n ≡ record { told = plainly Good 0; left = c }
   unfolding attempt_elapsed
   elapsed-no-wait z = awaits ∙ rw z
 
@@ -37,7 +37,7 @@ module _ (c : Connection) (n : ℕ) (opening : (c.phase ≡ 1) ⊎ (c.phase ≡ 
       → elapsed c n
       ≡ record {
         told = plainly Good 0;
-        connection = asking c (record { due = c.attempt.due; asked = c.attempt.asked; wait = c.attempt.wait - n; repeats = c.attempt.repeats });
+        left = asking c (record { due = c.attempt.due; asked = c.attempt.asked; wait = c.attempt.wait - n; repeats = c.attempt.repeats });
       }
   unfolding attempt_elapsed
   elapsed-less h = awaits ∙ rw (ne_eqb c.attempt.wait 0 (λ e. omega arith), lt-ltb n c.attempt.wait h)
@@ -47,13 +47,13 @@ module _ (c : Connection) (n : ℕ) (opening : (c.phase ≡ 1) ⊎ (c.phase ≡ 
       → elapsed c n
       ≡ record {
         told = plainly Good 0;
-        connection = asking c (record { due = true; asked = c.attempt.asked; wait = 0; repeats = c.attempt.repeats + 1 });
+        left = asking c (record { due = true; asked = c.attempt.asked; wait = 0; repeats = c.attempt.repeats + 1 });
       }
   unfolding attempt_elapsed
   elapsed-repeat runs over few = awaits ∙ rw (ne_eqb c.attempt.wait 0 (λ e. omega arith), le-ltb n c.attempt.wait over, lt-leb _ _ few)
 
   -- row 8, "opening repeats .. used up": "record closed, nothing due"
   pub elapsed-gives-up : 0 < c.attempt.wait → c.attempt.wait ≤ n → c.settings.mntc ≤ c.attempt.repeats
-      → elapsed c n ≡ record { told = plainly UsedUp 8; connection = at_rest false 0 }
+      → elapsed c n ≡ record { told = plainly UsedUp 8; left = at_rest false 0 }
   unfolding attempt_elapsed
   elapsed-gives-up runs over most = awaits ∙ rw (ne_eqb c.attempt.wait 0 (λ e. omega arith), le-ltb n c.attempt.wait over, le-leb _ _ most)

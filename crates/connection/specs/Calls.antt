@@ -1,9 +1,8 @@
 -- 01, "The record and its calls", "Opening" and "Numbers we answer with": what each call answers and leaves.
-use Rattle.std.specs.Prelude.{ℕ, ◌+◌, ◌-◌, Bool, true, false, not, ◌||◌, List, length, take, ltb, leb, eqb, if◌then◌else◌}
+use Rattle.std.specs.Prelude.{ℕ, ◌+◌, ◌-◌, true, false, not, ◌||◌, List, length, ltb, leb, eqb, if◌then◌else◌}
 use Rattle.std.specs.Borrow.{Bor}
 use Rattle.telegram.specs.Kinds.{bad_block, setup_of, disconnect_of}
 use Rattle.opening.specs.Opening.{Reply, Positive, Refused as RefusedBy, NoReply}
-use Rattle.telegram.specs.declared.cutting.Message.{Message}
 use Rattle.telegram.specs.declared.kinds.Parameters.{Parameters as Fields}
 use Rattle.telegram.specs.declared.kinds.Telegram.{Telegram}
 use Rattle.telegram.specs.declared.kinds.Telegram.TheVariants.{Data, Ack, Test, Break, Disconnect, Setup, Accept, Malformed as NoTelegram}
@@ -14,81 +13,58 @@ use Rattle.profile.specs.declared.Profile.{Profile}
 use Rattle.settings.specs.Settings.{allowed_by}
 use Rattle.settings.specs.declared.Settings.{Settings}
 use Rattle.settings.specs.Agreed.{own_fields}
-use Rattle.channel.specs.declared.Answer.{Answer as ChannelAnswer}
 use Rattle.channel.specs.declared.Answer.TheVariants.{Good, Disconnected, Malformed, BlockSize, NotDue, UsedUp}
 use Rattle.open_end.specs.declared.answers.Answer.TheVariants.{Channel, OtherId, OutOfRange, Refused}
-use Rattle.open_end.specs.declared.answers.Told.{Told}
-use Rattle.open_end.specs.Answers.{told}
+use Rattle.open_end.specs.Answers.{told, gives, marked, hand_over, hand_nothing, shows, Look, seen}
 use Rattle.open_end.specs.declared.Frame.{Frame}
 use Rattle.open_end.specs.declared.OpenEnd.{OpenEnd}
 use Rattle.open_end.specs.declared.Course.{Course}
 use Rattle.open_end.specs.declared.Course.TheVariants.{GoesOn, GivenUp, Leaves}
-use Rattle.open_end.specs.OpenEnd.{no_frame, course_of, arrived_at, buffered_at, elapsed_at, due_at, sent_at, taken_at}
+use Rattle.open_end.specs.OpenEnd.{course_of, arrived_at, buffered_at, elapsed_at, due_at, sent_at, taken_at}
 use Rattle.connection.specs.declared.attempt.Attempt.{Attempt}
 use Rattle.connection.specs.declared.Connection.{Connection}
-use Rattle.connection.specs.declared.Answered.{Answered}
-use Rattle.connection.specs.declared.Arrived.{Arrived}
-use Rattle.connection.specs.declared.Due.{Due}
-use Rattle.connection.specs.declared.TakeStep.{TakeStep}
-use Rattle.connection.specs.declared.Taken.{Taken}
+use Rattle.open_end.specs.declared.answers.Answered.{Answered}
+use Rattle.open_end.specs.declared.answers.Arrived.{Arrived}
+use Rattle.open_end.specs.declared.answers.Due.{Due}
+use Rattle.open_end.specs.declared.answers.TakeStep.{TakeStep}
 use Rattle.connection.specs.Record.{is_closed, is_requesting, is_agreeing, is_open, closed_record, leaving_on, requesting_as, agreeing, opened, with_attempt, with_open_end, hears}
 
 -- ---- what a call gives
 
--- an answer that an open channel gives too, with what it says, and the record left
-abbrev pub gives : ChannelAnswer → Connection → Answered
-gives a c = record { told = told (Channel a); connection = c }
-
--- the answer to a frame that arrives "carries that mark on" (02, 4): whether its telegram is padded
-abbrev pub marked : (padded : Bool) → Answered → Arrived
-marked p r = record { told = r.told; padded = p; connection = r.connection }
-
--- 0 with a frame handed over
-abbrev pub hand_over : Frame → Connection → Due
-hand_over f c = record { told = told (Channel Good); given = true; frame = f; connection = c }
-
--- 0 with no frame
-abbrev pub hand_nothing : Connection → Due
-hand_nothing c = record { told = told (Channel Good); given = false; frame = no_frame; connection = c }
-
--- an answer with the length and the flags of what a take shows
-abbrev pub shows : ChannelAnswer → Message → Connection → TakeStep
-shows a m c = record { told = told (Channel a); len = m.length; flags = m.flags; connection = c }
-
 -- ---- open
 
 -- in a profile: 4 if not closed, then 10; else the C0 is due, and an A8 that was due is discarded
-unfoldable pub opening_as : Connection → Profile → Settings → Answered
+unfoldable pub opening_as : Connection → Profile → Settings → Answered Connection
 opening_as c p s =
     if not (is_closed c) then gives NotDue c
-    else if not (allowed_by p s) then record { told = told OutOfRange; connection = c }
+    else if not (allowed_by p s) then record { told = told OutOfRange; left = c }
     else gives Good (requesting_as p s)
 
 -- in TP 2.0
-abbrev pub opening : Connection → Settings → Answered
+abbrev pub opening : Connection → Settings → Answered Connection
 opening c s = opening_as c tp20 s
 
 -- ---- a frame arrives
 
 -- while the D0 is awaited: 1, then 4 before the C0 was ever handed over; a refusal closes with nothing due
-unfoldable pub on_reply : Connection → Reply → Answered
+unfoldable pub on_reply : Connection → Reply → Answered Connection
 on_reply c NoReply = gives Malformed c
 on_reply c (RefusedBy opcode) =
     if not c.attempt.asked then gives NotDue c
-    else record { told = told (Refused opcode); connection = closed_record }
+    else record { told = told (Refused opcode); left = closed_record }
 on_reply c (Positive transmit) =
     if not c.attempt.asked then gives NotDue c
     else gives Good (agreeing c transmit)
 
 -- the A1 that is awaited: 4 before the A0 was ever handed over, then 2 for its block size byte
-unfoldable pub on_accept : Connection → Fields → Answered
+unfoldable pub on_accept : Connection → Fields → Answered Connection
 on_accept c p =
     if not c.attempt.asked then gives NotDue c
     else if bad_block p.block then gives BlockSize c
     else gives Good (opened c p)
 
 -- while the A1 is awaited only A1 and A8 are due kinds: 1, then 4; a disconnect leaves one A8 due
-unfoldable pub on_agreeing : Connection → Telegram → Answered
+unfoldable pub on_agreeing : Connection → Telegram → Answered Connection
 on_agreeing c (Accept p) = on_accept c p
 on_agreeing c Disconnect = gives Disconnected (leaving_on c.end.transmit)
 on_agreeing c NoTelegram = gives Malformed c
@@ -105,16 +81,16 @@ settled c GivenUp e = closed_record
 settled c Leaves e = leaving_on c.end.transmit
 
 -- on an open connection the end answers
-unfoldable pub on_open : (limit : ℕ) → Connection → Telegram → (s : List ℕ) → (room : ℕ) → Answered
+unfoldable pub on_open : (limit : ℕ) → Connection → Telegram → (s : List ℕ) → (room : ℕ) → Answered Connection
 on_open limit c t s room =
     (let r = arrived_at limit c.end t s room in
     gives r.answer (settled c (course_of r.answer) r.end))
 
 -- a frame with the bytes s, lent a buffer of room bytes: 4 if closed, then 3, then by the phase; what is sorted is answered with its mark
-unfoldable pub arrived : (limit : ℕ) → Connection → (id : ℕ) → (s : List ℕ) → (room : ℕ) → Arrived
+unfoldable pub arrived : (limit : ℕ) → Connection → (id : ℕ) → (s : List ℕ) → (room : ℕ) → Arrived Connection
 arrived limit c id s room =
     if is_closed c then marked false (gives NotDue c)
-    else if not (hears c id) then marked false (record { told = told OtherId; connection = c })
+    else if not (hears c id) then marked false (record { told = told OtherId; left = c })
     else if is_requesting c then marked false (on_reply c (reply_for c.profile s c.settings.receive))
     else if is_agreeing c then marked (sorted_by c.profile s).padded (on_agreeing c (sorted_by c.profile s).kind)
     else marked (sorted_by c.profile s).padded (on_open limit c (sorted_by c.profile s).kind s room)
@@ -136,7 +112,7 @@ abbrev pub repeat_due : Attempt → Attempt
 repeat_due a = record { due = true; asked = a.asked; wait = 0; repeats = a.repeats + 1 }
 
 -- while a reply is awaited: a wait that runs out makes a repeat due while the repeats are below MNTC, and gives 8 then
-unfoldable pub attempt_elapsed : Connection → ℕ → Answered
+unfoldable pub attempt_elapsed : Connection → ℕ → Answered Connection
 attempt_elapsed c n =
     if eqb c.attempt.wait 0 then gives Good c
     else if ltb n c.attempt.wait then gives Good (with_attempt c (waits_on c.attempt n))
@@ -144,11 +120,11 @@ attempt_elapsed c n =
     else gives Good (with_attempt c (repeat_due c.attempt))
 
 -- on an open connection the end's timers run
-unfoldable pub open_elapsed : Connection → ℕ → Answered
+unfoldable pub open_elapsed : Connection → ℕ → Answered Connection
 open_elapsed c n = (let r = elapsed_at c.end n in gives r.answer (settled c (course_of r.answer) r.end))
 
 -- good in every state; 8 where repeats, opening repeats or tests are used up
-unfoldable pub elapsed : Connection → ℕ → Answered
+unfoldable pub elapsed : Connection → ℕ → Answered Connection
 elapsed c n =
     if is_closed c then gives Good c
     else if not (is_open c) then attempt_elapsed c n
@@ -161,25 +137,25 @@ abbrev pub attempt_out : Connection → Attempt
 attempt_out c = record { due = false; asked = true; wait = c.settings.t_e; repeats = c.attempt.repeats }
 
 -- a closed record's one A8
-unfoldable pub closed_due : Connection → Due
+unfoldable pub closed_due : Connection → Due Connection
 closed_due c =
     if not c.leaving then hand_nothing c
     else hand_over (record { id = c.end.transmit; payload = disconnect_of }) closed_record
 
 -- the request of the opening, on its ID
-unfoldable pub request_due : Connection → Frame → Due
+unfoldable pub request_due : Connection → Frame → Due Connection
 request_due c f =
     if not c.attempt.due then hand_nothing c
     else hand_over f (with_attempt c (attempt_out c))
 
 -- what an open end has due
-unfoldable pub open_due : Connection → List ℕ → Due
+unfoldable pub open_due : Connection → List ℕ → Due Connection
 open_due c m =
     (let d = due_at c.end m in
-    record { told = told (Channel d.answer); given = d.given; frame = d.frame; connection = with_open_end c d.end })
+    record { told = told (Channel d.answer); given = d.given; frame = d.frame; left = with_open_end c d.end })
 
 -- at most one frame: a closed record's A8, the C0, the A0, or what the open end has due
-unfoldable pub due_of : Connection → List ℕ → Due
+unfoldable pub due_of : Connection → List ℕ → Due Connection
 due_of c m =
     if is_closed c then closed_due c
     else if is_requesting c then request_due c (record { id = c.profile.request; payload = request_for c.profile c.settings.unit c.settings.receive })
@@ -189,41 +165,27 @@ due_of c m =
 -- ---- send, take and close
 
 -- an open end is offered a message of n bytes
-unfoldable pub open_sent : (limit : ℕ) → Connection → ℕ → Answered
+unfoldable pub open_sent : (limit : ℕ) → Connection → ℕ → Answered Connection
 open_sent limit c n = (let r = sent_at limit c.end n in gives r.answer (with_open_end c r.end))
 
 -- send: 4 unless open, then 5, 6
-unfoldable pub sent_by : (limit : ℕ) → Connection → ℕ → Answered
+unfoldable pub sent_by : (limit : ℕ) → Connection → ℕ → Answered Connection
 sent_by limit c n = if not (is_open c) then gives NotDue c else open_sent limit c n
 
 -- an open end's message is taken
-unfoldable pub open_taken : Connection → (room : ℕ) → TakeStep
+unfoldable pub open_taken : Connection → (room : ℕ) → TakeStep Connection
 open_taken c room = (let t = taken_at c.end room in shows t.answer t.message (with_open_end c t.end))
 
 -- take, lent a buffer of room bytes: 4 unless open, then 5, 7
-unfoldable pub taken_by : Connection → (room : ℕ) → TakeStep
+unfoldable pub taken_by : Connection → (room : ℕ) → TakeStep Connection
 taken_by c room = if not (is_open c) then shows NotDue none c else open_taken c room
 
--- what a caller sees of a take: the message's flags, where its first byte lies, and its bytes
-pub record Look : Type 0 where
-  pub told : Told
-  pub flags : ℕ
-  pub connection : Connection
-  pub place : ℕ × ℕ
-  pub message : List ℕ
-
 -- take, lent a buffer: the message is shown as the first part of it, where it lies
-abbrev pub takes : Connection → (buffer : Bor (List ℕ)) → Look
-takes c b =
-    (let t = taken_by c (length b.now) in
-    record { told = t.told; flags = t.flags; connection = t.connection; place = b.ref_ptr; message = take t.len b.now })
-
--- a take's result, as it is seen
-abbrev pub looked : Taken → Look
-looked t = record { told = t.told; flags = t.flags; connection = t.connection; place = t.message.ref_ptr; message = t.message.now }
+abbrev pub takes : Connection → (buffer : Bor (List ℕ)) → Look Connection
+takes c b = seen (taken_by c (length b.now)) b
 
 -- close: 4 on a closed record; what is unfinished is dropped, and one A8 is due if the transmit ID is known
-unfoldable pub closed : Connection → Answered
+unfoldable pub closed : Connection → Answered Connection
 closed c =
     if is_closed c then gives NotDue c
     else if is_requesting c then gives Good closed_record

@@ -7,7 +7,7 @@ use Rattle.connection.specs.Calls.{arrived, buffered}
 -- what a frame with the bytes s comes to at a record, a buffer being lent
 abbrev pub comes_to : (limit : ℕ) → Connection → (id : ℕ) → (buffer s : List ℕ) → Outcome Connection
 comes_to limit c id b s =
-    (let r = arrived limit c id s (length b) in record { told = r.told; padded = r.padded; left = r.connection; buffer = buffered limit c id s b })
+    (let r = arrived limit c id s (length b) in record { told = r.told; padded = r.padded; left = r.left; buffer = buffered limit c id s b })
 
 -- for every record, ID and buffer; phase 0 is closed
 abbrev pub PaddingAltersNothing : Type 0

@@ -10,10 +10,11 @@ ghost use Rattle.telegram.specs.Cutting.{longest};
 ghost use Rattle.opening.specs.Opening.{Positive, Refused as RefusedBy};
 ghost use Rattle.open_end.specs.OpenEnd.{buffered_at};
 ghost use Rattle.connection.specs.Record.{closed_record, leaving_on, requesting_as, agreeing, opened, hears, is_open};
-ghost use Rattle.connection.specs.Calls.{gives, marked, hand_over, hand_nothing, shows, opening_as, opening, on_reply, on_accept, on_agreeing, settled, on_open, arrived, buffered, attempt_elapsed, open_elapsed, elapsed, closed_due, request_due, open_due, due_of, open_sent, sent_by, open_taken, taken_by, takes, looked, closed};
+ghost use Rattle.connection.specs.Calls.{opening_as, opening, on_reply, on_accept, on_agreeing, settled, on_open, arrived, buffered, attempt_elapsed, open_elapsed, elapsed, closed_due, request_due, open_due, due_of, open_sent, sent_by, open_taken, taken_by, takes, closed};
+ghost use Rattle.open_end.specs.Answers.{looked, gives, marked, hand_over, hand_nothing, shows};
 
 use crate::attempt::{Attempt, new_attempt, no_attempt};
-use open_end::answers::{Answer, Told, tell};
+use open_end::answers::{Answer, Answered, Arrived, Due, Record, TakeStep, Taken, tell};
 use open_end::{Course, Frame, OpenEnd, course_of, no_frame, shown};
 use opening::ReplyError;
 use profile::Profile;
@@ -49,63 +50,7 @@ pub struct Connection {
     pub end: OpenEnd,
 }
 
-// What a call tells, and the record that it leaves.
-#[derive(Clone, Copy)]
-pub struct Answered {
-    pub told: Told,
-    pub connection: Connection,
-}
-
-// What a frame that arrives tells, whether its telegram is padded, and the record that it leaves. The mark is false with the
-// numbers 1 and 3, and with a closed record's 4.
-#[derive(Clone, Copy)]
-pub struct Arrived {
-    pub told: Told,
-    pub padded: bool,
-    pub connection: Connection,
-}
-
-// A frame to hand over, if one is given; else ID 0 and no bytes.
-#[derive(Clone, Copy)]
-pub struct Due {
-    pub told: Told,
-    pub given: bool,
-    pub frame: Frame,
-    pub connection: Connection,
-}
-
-// What taking a message comes to: where it is shown, len is its declared length and flags are its flags, and else both are 0.
-#[derive(Clone, Copy)]
-pub struct TakeStep {
-    pub told: Told,
-    pub len: usize,
-    pub flags: u16,
-    pub connection: Connection,
-}
-
-// A message taken: the first part of the lent buffer, and nothing of it where none is shown; its flags, and 0 there.
-#[derive(Clone, Copy)]
-pub struct Taken<'a> {
-    pub told: Told,
-    pub flags: u16,
-    pub connection: Connection,
-    pub message: &'a [u8],
-}
-
-impl Answered {
-    // The answer to a frame that arrives, with its telegram's mark.
-    fn marked(self, padded: bool) -> Arrived
-        ensures { result ≡ marked padded self }
-    {
-        let told = self.told;
-        let connection = self.connection;
-        Arrived {
-            told,
-            padded,
-            connection,
-        }
-    }
-}
+impl Record for Connection {}
 
 impl Connection {
     // A closed connection, with nothing due.
@@ -146,61 +91,15 @@ impl Connection {
         }
     }
 
-    // An answer that an open channel gives too, with this record left.
-    fn gives(self, answer: channel::Answer) -> Answered
-        ensures { result ≡ gives answer self }
-    {
-        Answered {
-            told: tell(Answer::Channel(answer)),
-            connection: self,
-        }
-    }
-
-    // A frame is handed over, with this record left.
-    fn hand_over(self, frame: Frame) -> Due
-        ensures { result ≡ hand_over frame self }
-    {
-        Due {
-            told: tell(Answer::Channel(channel::Answer::Good)),
-            given: true,
-            frame,
-            connection: self,
-        }
-    }
-
-    // No frame is handed over, with this record left.
-    fn hand_nothing(self) -> Due
-        ensures { result ≡ hand_nothing self }
-    {
-        Due {
-            told: tell(Answer::Channel(channel::Answer::Good)),
-            given: false,
-            frame: no_frame(),
-            connection: self,
-        }
-    }
-
-    // What a take comes to, with this record left.
-    fn shows(self, answer: channel::Answer, message: Message) -> TakeStep
-        ensures { result ≡ shows answer message self }
-    {
-        TakeStep {
-            told: tell(Answer::Channel(answer)),
-            len: message.length as usize,
-            flags: message.flags,
-            connection: self,
-        }
-    }
-
     // Opens a closed connection in TP 2.0: the C0 is due.
-    pub fn open(self, settings: Settings) -> Answered
+    pub fn open(self, settings: Settings) -> Answered<Connection>
         ensures { result ≡ opening self settings }
     {
         self.open_as(Profile::tp20(), settings)
     }
 
     // Opens a closed connection in a profile.
-    pub fn open_as(self, profile: Profile, settings: Settings) -> Answered
+    pub fn open_as(self, profile: Profile, settings: Settings) -> Answered<Connection>
         ensures { result ≡ opening_as self profile settings }
     {
         let phase = self.phase;
@@ -210,7 +109,7 @@ impl Connection {
         if !settings.in_range_of(profile) {
             return Answered {
                 told: tell(Answer::OutOfRange),
-                connection: self,
+                left: self,
             };
         }
         Connection::requesting(profile, settings).gives(channel::Answer::Good)
@@ -235,7 +134,7 @@ impl Connection {
 
     // A reply to the C0.
     #[tactic(auto, unfolding(crate::specs::Calls::on_reply))]
-    fn on_reply(self, reply: Result<u16, ReplyError>) -> Answered
+    fn on_reply(self, reply: Result<u16, ReplyError>) -> Answered<Connection>
         ensures { result ≡ on_reply self reply }
     {
         match reply {
@@ -246,7 +145,7 @@ impl Connection {
     }
 
     // A refusal, D6, D7 or D8.
-    fn on_refusal(self, opcode: u8) -> Answered
+    fn on_refusal(self, opcode: u8) -> Answered<Connection>
         ensures { result ≡ on_reply self (RefusedBy opcode) }
     {
         let asked = self.attempt.asked;
@@ -255,12 +154,12 @@ impl Connection {
         }
         Answered {
             told: tell(Answer::Refused(opcode)),
-            connection: Connection::closed(),
+            left: Connection::closed(),
         }
     }
 
     // The D0.
-    fn on_positive(self, transmit: u16) -> Answered
+    fn on_positive(self, transmit: u16) -> Answered<Connection>
         ensures { result ≡ on_reply self (Positive transmit) }
     {
         let asked = self.attempt.asked;
@@ -307,7 +206,7 @@ impl Connection {
     }
 
     // A telegram while the A1 is awaited.
-    fn on_agreeing(self, telegram: Telegram) -> Answered
+    fn on_agreeing(self, telegram: Telegram) -> Answered<Connection>
         ensures { result ≡ on_agreeing self telegram }
     {
         match telegram {
@@ -332,7 +231,7 @@ impl Connection {
     }
 
     // The A1 that is awaited.
-    fn on_accept(self, fields: Fields) -> Answered
+    fn on_accept(self, fields: Fields) -> Answered<Connection>
         ensures { result ≡ on_accept self fields }
     {
         let asked = self.attempt.asked;
@@ -347,7 +246,7 @@ impl Connection {
     }
 
     // Closes: one A8 is due if the transmit ID is known.
-    pub fn close(self) -> Answered
+    pub fn close(self) -> Answered<Connection>
         ensures { result ≡ closed self }
     {
         let phase = self.phase;
@@ -360,8 +259,8 @@ impl Connection {
         Connection::leaving_on(self.end.transmit).gives(channel::Answer::Good)
     }
 
-    // A CAN frame arrives, and a buffer is lent.
-    pub fn arrive(self, id: u16, bytes: &[u8], buffer: &mut [u8]) -> Arrived
+    // A CAN frame arrives, and a buffer is lent. The mark is false with the numbers 1 and 3, and with a closed record's 4.
+    pub fn arrive(self, id: u16, bytes: &[u8], buffer: &mut [u8]) -> Arrived<Connection>
         ensures value { result ≡ arrived longest self id bytes.now (length buffer.old) }
         ensures buffer_after { buffer.new ≡ buffered longest self id bytes.now buffer.old }
     {
@@ -374,7 +273,7 @@ impl Connection {
         if !self.hears(id) {
             return Answered {
                 told: tell(Answer::OtherId),
-                connection: self,
+                left: self,
             }
             .marked(false);
         }
@@ -392,7 +291,7 @@ impl Connection {
     }
 
     // A frame on an open connection, sorted: the end answers.
-    fn on_open(self, telegram: Telegram, bytes: &[u8], buffer: &mut [u8]) -> Answered
+    fn on_open(self, telegram: Telegram, bytes: &[u8], buffer: &mut [u8]) -> Answered<Connection>
         ensures value { result ≡ on_open longest self telegram bytes.now (length buffer.old) }
         ensures buffer_after { buffer.new ≡ buffered_at longest self.end telegram bytes.now buffer.old }
     {
@@ -418,7 +317,7 @@ impl Connection {
     }
 
     // Time passes.
-    pub fn elapse(self, tenths: u64) -> Answered
+    pub fn elapse(self, tenths: u64) -> Answered<Connection>
         ensures { result ≡ elapsed self tenths }
     {
         let phase = self.phase;
@@ -432,7 +331,7 @@ impl Connection {
     }
 
     // Time passes on an open connection.
-    fn open_elapses(self, tenths: u64) -> Answered
+    fn open_elapses(self, tenths: u64) -> Answered<Connection>
         ensures { result ≡ open_elapsed self tenths }
     {
         let end = self.end;
@@ -443,7 +342,7 @@ impl Connection {
     }
 
     // Time passes while a reply is awaited.
-    fn attempt_elapses(mut self, tenths: u64) -> Answered
+    fn attempt_elapses(mut self, tenths: u64) -> Answered<Connection>
         ensures { result ≡ attempt_elapsed self tenths }
     {
         let mut a = self.attempt;
@@ -469,7 +368,7 @@ impl Connection {
     }
 
     // What is due: at most one frame, the message in sending being lent.
-    pub fn due(self, message: &[u8]) -> Due
+    pub fn due(self, message: &[u8]) -> Due<Connection>
         ensures { result ≡ due_of self message.now }
     {
         let phase = self.phase;
@@ -496,7 +395,7 @@ impl Connection {
     }
 
     // A closed record has at most its A8 due.
-    fn closed_due(self) -> Due
+    fn closed_due(self) -> Due<Connection>
         ensures { result ≡ closed_due self }
     {
         let leaving = self.leaving;
@@ -512,7 +411,7 @@ impl Connection {
     }
 
     // The request of the opening, if it is due.
-    fn request_due(mut self, frame: Frame) -> Due
+    fn request_due(mut self, frame: Frame) -> Due<Connection>
         ensures { result ≡ request_due self frame }
     {
         let mut a = self.attempt;
@@ -528,7 +427,7 @@ impl Connection {
     }
 
     // What an open end has due.
-    fn open_due(mut self, message: &[u8]) -> Due
+    fn open_due(mut self, message: &[u8]) -> Due<Connection>
         ensures { result ≡ open_due self message.now }
     {
         let end = self.end;
@@ -541,12 +440,12 @@ impl Connection {
             told: tell(Answer::Channel(answer)),
             given: d.given,
             frame,
-            connection: self,
+            left: self,
         }
     }
 
     // A message to send.
-    pub fn send(self, message: &[u8]) -> Answered
+    pub fn send(self, message: &[u8]) -> Answered<Connection>
         ensures { result ≡ sent_by longest self (length message.now) }
     {
         if !self.is_open() {
@@ -556,7 +455,7 @@ impl Connection {
     }
 
     // A message of len bytes is offered on an open connection.
-    fn open_sends(mut self, len: usize) -> Answered
+    fn open_sends(mut self, len: usize) -> Answered<Connection>
         ensures { result ≡ open_sent longest self len }
     {
         let end = self.end;
@@ -568,7 +467,7 @@ impl Connection {
     }
 
     // What taking a message comes to, in a lent buffer of room bytes.
-    pub fn take_step(self, room: usize) -> TakeStep
+    pub fn take_step(self, room: usize) -> TakeStep<Connection>
         ensures { result ≡ taken_by self room }
     {
         if !self.is_open() {
@@ -578,7 +477,7 @@ impl Connection {
     }
 
     // What taking a message comes to on an open connection.
-    fn open_takes(mut self, room: usize) -> TakeStep
+    fn open_takes(mut self, room: usize) -> TakeStep<Connection>
         ensures { result ≡ open_taken self room }
     {
         let end = self.end;
@@ -591,7 +490,7 @@ impl Connection {
     }
 
     // Takes the complete message: it is shown as the first part of the lent buffer.
-    pub fn take<'a>(self, buffer: &'a [u8]) -> Taken<'a>
+    pub fn take<'a>(self, buffer: &'a [u8]) -> Taken<'a, Connection>
         ensures { looked result ≡ takes self buffer.entry }
     {
         let step = self.take_step(buffer.len());
@@ -599,7 +498,7 @@ impl Connection {
         Taken {
             told: step.told,
             flags: step.flags,
-            connection: step.connection,
+            left: step.left,
             message,
         }
     }

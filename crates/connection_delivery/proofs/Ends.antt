@@ -12,7 +12,8 @@ use Rattle.profile.proofs.Rules.{sorted_by-tests, sorted_by-other}
 use Rattle.open_end.specs.OpenEnd.{buffered_at}
 use Rattle.connection.specs.declared.Connection.{Connection}
 use Rattle.connection.specs.Record.{is_closed, is_requesting, is_agreeing, is_open, listens_on, hears}
-use Rattle.connection.specs.Calls.{open_sent, sent_by, open_taken, taken_by, open_elapsed, elapsed, open_due, due_of, marked, on_open, arrived, buffered}
+use Rattle.connection.specs.Calls.{open_sent, sent_by, open_taken, taken_by, open_elapsed, elapsed, open_due, due_of, on_open, arrived, buffered}
+use Rattle.open_end.specs.Answers.{marked}
 use Rattle.connection_delivery.specs.Ends.{goes_by}
 use Rattle.connection_delivery.proofs.Keeps.{DataOrAck, is-data, is-ack, CarriedBy}
 

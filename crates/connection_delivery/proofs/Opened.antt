@@ -30,7 +30,8 @@ use Rattle.channel.specs.declared.Answer.TheVariants.{Good}
 use Rattle.open_end.specs.declared.answers.Answer.TheVariants.{Channel}
 use Rattle.connection.specs.declared.Connection.{Connection}
 use Rattle.connection.specs.Record.{listens_on, hears, closed_record, with_attempt, requesting_as, agreeing, opened}
-use Rattle.connection.specs.Calls.{gives, marked, hand_over, opening_as, on_reply, on_accept, on_agreeing, arrived, request_due, due_of}
+use Rattle.connection.specs.Calls.{opening_as, on_reply, on_accept, on_agreeing, arrived, request_due, due_of}
+use Rattle.open_end.specs.Answers.{gives, marked, hand_over}
 use Rattle.delivery.specs.System.{Try}
 use Rattle.delivery.specs.Claim.{Fresh}
 use Rattle.connection_delivery.specs.Ends.{goes_by}

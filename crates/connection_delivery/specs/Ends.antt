@@ -3,8 +3,8 @@ use Rattle.std.specs.Prelude.{ℕ, ◌≤◌, Bool, true, false, not, ◌&&◌, 
 use Rattle.telegram.specs.Outgoing.{bytes_of}
 use Rattle.open_end.specs.declared.answers.Said.{Said}
 use Rattle.connection.specs.declared.Connection.{Connection}
-use Rattle.connection.specs.declared.Due.{Due}
-use Rattle.connection.specs.declared.TakeStep.{TakeStep}
+use Rattle.open_end.specs.declared.answers.Due.{Due}
+use Rattle.open_end.specs.declared.answers.TakeStep.{TakeStep}
 use Rattle.connection.specs.Record.{is_open}
 use Rattle.connection.specs.Calls.{sent_by, taken_by, elapsed, due_of, arrived, buffered}
 use Rattle.delivery.specs.End.{Told, Taken, Given, End}
@@ -16,12 +16,12 @@ abbrev pub tells : Said → Connection → Told Connection
 tells s c = record { number = s.number; done = s.done; state = c }
 
 -- the same of a take
-abbrev pub shows : TakeStep → Taken Connection
-shows t = record { number = t.told.said.number; message = record { length = t.len; flags = t.flags }; state = t.connection }
+abbrev pub shows : TakeStep Connection → Taken Connection
+shows t = record { number = t.told.said.number; message = record { length = t.len; flags = t.flags }; state = t.left }
 
 -- the same of what is due: the frame's ID and bytes
-abbrev pub hands : Due → Given Connection
-hands d = record { given = d.given; id = d.frame.id; bytes = bytes_of d.frame.payload; state = d.connection }
+abbrev pub hands : Due Connection → Given Connection
+hands d = record { given = d.given; id = d.frame.id; bytes = bytes_of d.frame.payload; state = d.left }
 
 -- a record goes by a profile with tests; or by one without, and then none is agreed: its interval is 0
 abbrev pub goes_by : (tests : Bool) → Connection → Bool
@@ -34,11 +34,11 @@ abbrev pub connection_end : (limit : ℕ) → (tests : Bool) → End
 connection_end limit tests =
     record {
       State = Connection;
-      send = λ c n. (let r = sent_by limit c n in tells r.told.said r.connection);
+      send = λ c n. (let r = sent_by limit c n in tells r.told.said r.left);
       take = λ c room. shows (taken_by c room);
-      time = λ c n. (let r = elapsed c n in tells r.told.said r.connection);
+      time = λ c n. (let r = elapsed c n in tells r.told.said r.left);
       due = λ c m. hands (due_of c m);
-      arrive = λ c id bytes room. (let r = arrived limit c id bytes room in tells r.told.said r.connection);
+      arrive = λ c id bytes room. (let r = arrived limit c id bytes room in tells r.told.said r.left);
       buffered = buffered limit;
       open' = λ c. is_open c && goes_by tests c;
       channel = λ c. c.end.channel;

@@ -16,7 +16,7 @@ use Rattle.settings.specs.declared.Settings.{Settings}
 use Rattle.open_end.specs.declared.answers.Answer.{Answer}
 use Rattle.open_end.specs.declared.Frame.{Frame}
 use Rattle.connection.specs.declared.Connection.{Connection}
-use Rattle.connection.specs.declared.Due.{Due}
+use Rattle.open_end.specs.declared.answers.Due.{Due}
 use Rattle.connection.specs.Record.{closed_record}
 use Rattle.connection.specs.Calls.{opening_as, arrived, due_of}
 use Rattle.delivery.specs.System.{Try, System}
@@ -30,7 +30,7 @@ pub record Exchange : Type 0 where
   pub connection : Connection
 
 -- the frame of a due call, if any
-abbrev pub handed_over : Due → List Frame
+abbrev pub handed_over : Due Connection → List Frame
 handed_over d = if d.given then d.frame ∷ [] else []
 
 -- the unit's D0 that names a transmit ID, in the profile's form
@@ -41,14 +41,14 @@ positive_of p receive transmit = if p.short then short_reply_of 0xD0 transmit el
 unfoldable pub exchange : (limit : ℕ) → Profile → Settings → (transmit : ℕ) → Fields → (room : ℕ) → Exchange
 exchange limit p s transmit fields room =
     (let o = opening_as closed_record p s in
-    let c0 = due_of o.connection [] in
-    let d0 = arrived limit c0.connection (reply_id p s.unit) (bytes_of (positive_of p s.receive transmit)) room in
-    let a0 = due_of d0.connection [] in
-    let a1 = arrived limit a0.connection s.receive (bytes_of (accept_of fields)) room in
+    let c0 = due_of o.left [] in
+    let d0 = arrived limit c0.left (reply_id p s.unit) (bytes_of (positive_of p s.receive transmit)) room in
+    let a0 = due_of d0.left [] in
+    let a1 = arrived limit a0.left s.receive (bytes_of (accept_of fields)) room in
     record {
       answers = o.told.answer ∷ c0.told.answer ∷ d0.told.answer ∷ a0.told.answer ∷ a1.told.answer ∷ [];
       frames = handed_over c0 ++ handed_over a0;
-      connection = a1.connection;
+      connection = a1.left;
     })
 
 -- two records opened to each other's receive IDs, each in its profile and with an A1 of its own, and nothing on its way

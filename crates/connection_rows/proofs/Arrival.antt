@@ -18,10 +18,11 @@ use Rattle.arrival.proofs.Rules.{malformed-fields}
 use Rattle.open_end.specs.declared.answers.Said.{Said}
 use Rattle.open_end.specs.OpenEnd.{course_of, arrived_at, buffered_at}
 use Rattle.connection.specs.declared.Connection.{Connection}
-use Rattle.connection.specs.declared.Answered.{Answered}
-use Rattle.connection.specs.declared.Arrived.{Arrived}
+use Rattle.open_end.specs.declared.answers.Answered.{Answered}
+use Rattle.open_end.specs.declared.answers.Arrived.{Arrived}
 use Rattle.connection.specs.Record.{hears as listened}
-use Rattle.connection.specs.Calls.{marked, arrived, buffered, on_reply, on_accept, on_agreeing, on_open}
+use Rattle.connection.specs.Calls.{arrived, buffered, on_reply, on_accept, on_agreeing, on_open}
+use Rattle.open_end.specs.Answers.{marked}
 use Rattle.open_rows.specs.Tables.{told_by}
 use Rattle.open_rows.proofs.Same.{opened-same, block_same}
 use Rattle.open_rows.proofs.Bytes.{telegram, by_kind, data-unpadded, padded-eight, setup-unpadded}
@@ -38,10 +39,10 @@ module _ (limit : ℕ) (c : Connection) (id : ℕ) (s b : List ℕ) where
   tabled = told_by (arrival_table limit c id s b)
 
   -- what is said and left by an arrival with the buffer w then, and by an answer with its mark
-  abbrev tells : List ℕ → Arrived → Said × (Bool × Connection × List ℕ)
-  tells w r = (r.told.said, (r.padded, r.connection, w))
+  abbrev tells : List ℕ → Arrived Connection → Said × (Bool × Connection × List ℕ)
+  tells w r = (r.told.said, (r.padded, r.left, w))
 
-  abbrev answers-told : List ℕ → Bool → Answered → Said × (Bool × Connection × List ℕ)
+  abbrev answers-told : List ℕ → Bool → Answered Connection → Said × (Bool × Connection × List ℕ)
   answers-told w p r = tells w (marked p r)
 
   -- by a reply, and by a telegram while the A1 is awaited

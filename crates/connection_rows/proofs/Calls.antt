@@ -14,9 +14,9 @@ use Rattle.open_end.specs.declared.Frame.{Frame}
 use Rattle.open_end.specs.declared.answers.Said.{Said}
 use Rattle.open_end.specs.OpenEnd.{elapsed_at, due_at, sent_at, taken_at}
 use Rattle.connection.specs.declared.Connection.{Connection}
-use Rattle.connection.specs.declared.Answered.{Answered}
-use Rattle.connection.specs.declared.Due.{Due}
-use Rattle.connection.specs.declared.TakeStep.{TakeStep}
+use Rattle.open_end.specs.declared.answers.Answered.{Answered}
+use Rattle.open_end.specs.declared.answers.Due.{Due}
+use Rattle.open_end.specs.declared.answers.TakeStep.{TakeStep}
 use Rattle.connection.specs.Calls.{opening_as, attempt_elapsed, open_elapsed, elapsed, closed_due, request_due, open_due, due_of, open_sent, sent_by, open_taken, taken_by, closed}
 use Rattle.open_rows.specs.Tables.{told_by}
 use Rattle.open_rows.proofs.Same.{range_same}
@@ -27,8 +27,8 @@ use Rattle.connection_rows.specs.Rows.{open_table, open_as_says, time_table, tim
 use Rattle.connection_rows.proofs.Ways.{ways_of, settled-by}
 
 -- what a call says and leaves
-abbrev tells : Answered → Said × Connection
-tells r = (r.told.said, r.connection)
+abbrev tells : Answered Connection → Said × Connection
+tells r = (r.told.said, r.left)
 
 -- ---- open
 
@@ -70,8 +70,8 @@ module _ (c : Connection) (n : ℕ) where
 -- ---- what is due
 
 module _ (c : Connection) (m : List ℕ) where
-  abbrev hands-over : Due → Said × (Bool × Frame × Connection)
-  hands-over d = (d.told.said, (d.given, d.frame, d.connection))
+  abbrev hands-over : Due Connection → Said × (Bool × Frame × Connection)
+  hands-over d = (d.told.said, (d.given, d.frame, d.left))
 
   pub due-told : due_says c m ≡ told_by (due_table c m)
   unfolding due_of request_for closed_due request_due open_due due_at
@@ -91,8 +91,8 @@ unfolding sent_by open_sent sent_at
 send-told limit c n = by-not (Makes tells _) (is_open c) (λ e. rw e) (λ e. rw e (open-send (ways_of c) limit c.end n))
 
 module _ (c : Connection) (room : ℕ) where
-  abbrev looks : TakeStep → Said × (ℕ × ℕ × Connection)
-  looks r = (r.told.said, (r.len, r.flags, r.connection))
+  abbrev looks : TakeStep Connection → Said × (ℕ × ℕ × Connection)
+  looks r = (r.told.said, (r.len, r.flags, r.left))
 
   pub take-told : take_says c room ≡ told_by (take_table c room)
   unfolding taken_by open_taken taken_at

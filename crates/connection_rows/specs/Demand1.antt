@@ -43,7 +43,7 @@ pub record Demand1 : Type 0 where
   pub looks :
       (c : Connection) (buffer : Bor (List ℕ)) →
       ((takes c buffer).told.said ≡ (told_by (take_table c (length buffer.now))).0)
-      × ((takes c buffer).connection ≡ (told_by (take_table c (length buffer.now))).1.2)
+      × ((takes c buffer).left ≡ (told_by (take_table c (length buffer.now))).1.2)
   -- "A refusal never writes to the buffer"
   pub keeps :
       (limit : ℕ) (c : Connection) (id : ℕ) (s b : List ℕ) →

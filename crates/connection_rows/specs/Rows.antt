@@ -105,7 +105,7 @@ arrival_table limit c id s b =
 abbrev pub arrive_says : (limit : ℕ) → Connection → (id : ℕ) → (s b : List ℕ) → Said × (Bool × Connection × List ℕ)
 arrive_says limit c id s b =
     (let r = arrived limit c id s (length b) in
-    (r.told.said, (r.padded, r.connection, buffered limit c id s b)))
+    (r.told.said, (r.padded, r.left, buffered limit c id s b)))
 
 -- ---- open
 
@@ -118,11 +118,11 @@ open_table c p s =
 
 -- what an open in a profile says and leaves
 abbrev pub open_as_says : Connection → Profile → Settings → Said × Connection
-open_as_says c p s = ((opening_as c p s).told.said, (opening_as c p s).connection)
+open_as_says c p s = ((opening_as c p s).told.said, (opening_as c p s).left)
 
 -- what an open that names none says and leaves
 abbrev pub open_says : Connection → Settings → Said × Connection
-open_says c s = ((opening c s).told.said, (opening c s).connection)
+open_says c s = ((opening c s).told.said, (opening c s).left)
 
 -- ---- time passes
 
@@ -152,7 +152,7 @@ time_table c n =
 
 -- what a time call says and leaves
 abbrev pub time_says : Connection → ℕ → Said × Connection
-time_says c n = ((elapsed c n).told.said, (elapsed c n).connection)
+time_says c n = ((elapsed c n).told.said, (elapsed c n).left)
 
 -- ---- what is due
 
@@ -185,7 +185,7 @@ due_table c m =
 
 -- what a due call says, hands over and leaves
 abbrev pub due_says : Connection → (m : List ℕ) → Said × (Bool × Frame × Connection)
-due_says c m = ((due_of c m).told.said, ((due_of c m).given, (due_of c m).frame, (due_of c m).connection))
+due_says c m = ((due_of c m).told.said, ((due_of c m).given, (due_of c m).frame, (due_of c m).left))
 
 -- ---- send, take and close
 
@@ -200,7 +200,7 @@ send_table limit c n =
 
 -- what a send says and leaves
 abbrev pub send_says : (limit : ℕ) → Connection → (n : ℕ) → Said × Connection
-send_says limit c n = ((sent_by limit c n).told.said, (sent_by limit c n).connection)
+send_says limit c n = ((sent_by limit c n).told.said, (sent_by limit c n).left)
 
 -- "Take: 4, 5, 7": "take with none complete", "lent buffer shorter than the declared length"; what is shown has the declared length, and the reader "reports the four flags with the message" (02, request 1); a refusal shows and reports none
 abbrev pub take_table : Connection → (room : ℕ) → Table (ℕ × ℕ × Connection)
@@ -214,7 +214,7 @@ take_table c room =
 
 -- what a take says, the length that it shows, the flags that it reports, and what it leaves
 abbrev pub take_says : Connection → (room : ℕ) → Said × (ℕ × ℕ × Connection)
-take_says c room = ((taken_by c room).told.said, ((taken_by c room).len, (taken_by c room).flags, (taken_by c room).connection))
+take_says c room = ((taken_by c room).told.said, ((taken_by c room).len, (taken_by c room).flags, (taken_by c room).left))
 
 -- "any .. close on a closed record" gives 4; "leaves one A8 due if the transmit ID is known, else nothing"
 abbrev pub close_table : Connection → Table Connection
@@ -224,4 +224,4 @@ close_table c =
 
 -- what a close says and leaves
 abbrev pub close_says : Connection → Said × Connection
-close_says c = ((closed c).told.said, (closed c).connection)
+close_says c = ((closed c).told.said, (closed c).left)

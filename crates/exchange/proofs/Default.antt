@@ -22,7 +22,8 @@ use Rattle.arrival.specs.Arrived.{answered, on_ack as ack_on, arrived as arrived
 use Rattle.open_end.specs.OpenEnd.{course_of, arrived_at, frame_on, due_at, sent_at}
 use Rattle.connection.specs.declared.Connection.{Connection}
 use Rattle.connection.specs.Record.{requesting, agreeing, opened, with_attempt, listens_on, hears}
-use Rattle.connection.specs.Calls.{gives, marked, attempt_out, opening_as, on_reply, on_accept, on_agreeing, settled, on_open, arrived, request_due, open_due, due_of, open_sent, sent_by}
+use Rattle.connection.specs.Calls.{attempt_out, opening_as, on_reply, on_accept, on_agreeing, settled, on_open, arrived, request_due, open_due, due_of, open_sent, sent_by}
+use Rattle.open_end.specs.Answers.{gives, marked}
 use Rattle.connection.proofs.Rules.{buffered-requesting}
 use Rattle.exchange.specs.Exchange.{step, run}
 use Rattle.exchange.specs.Default.{DefaultBlocks, first_bytes, blocks_of_eight}

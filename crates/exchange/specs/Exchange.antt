@@ -13,9 +13,9 @@ use Rattle.open_end.specs.declared.answers.Said.{Said}
 use Rattle.open_end.specs.declared.answers.Told.{Told}
 use Rattle.open_end.specs.Answers.{said}
 use Rattle.connection.specs.declared.Connection.{Connection}
-use Rattle.connection.specs.declared.Answered.{Answered}
-use Rattle.connection.specs.declared.Due.{Due}
-use Rattle.connection.specs.declared.TakeStep.{TakeStep}
+use Rattle.open_end.specs.declared.answers.Answered.{Answered}
+use Rattle.open_end.specs.declared.answers.Due.{Due}
+use Rattle.open_end.specs.declared.answers.TakeStep.{TakeStep}
 use Rattle.connection.specs.Record.{closed_record}
 use Rattle.connection.specs.Calls.{opening, arrived, buffered, elapsed, due_of, sent_by, taken_by, closed}
 
@@ -43,21 +43,21 @@ abbrev pub after : Told → (line : List (List ℕ)) → Connection → (b : Lis
 after t line c b = record { says = t.said; line = line; connection = c; buffer = b }
 
 -- a call that puts out nothing
-abbrev pub silent : Answered → (b : List ℕ) → After
-silent r b = after r.told [] r.connection b
+abbrev pub silent : Answered Connection → (b : List ℕ) → After
+silent r b = after r.told [] r.left b
 
 -- a frame handed over is put out as its ID, then its bytes
-abbrev pub handed : Due → (b : List ℕ) → After
-handed d b = after d.told (if d.given then (d.frame.id ∷ bytes_of d.frame.payload) ∷ [] else []) d.connection b
+abbrev pub handed : Due Connection → (b : List ℕ) → After
+handed d b = after d.told (if d.given then (d.frame.id ∷ bytes_of d.frame.payload) ∷ [] else []) d.left b
 
 -- a message taken is put out as its bytes, the first part of the lent buffer
-abbrev pub taken : TakeStep → (b : List ℕ) → After
-taken t b = after t.told (if eqb t.told.said.number 0 then first_of t.len b ∷ [] else []) t.connection b
+abbrev pub taken : TakeStep Connection → (b : List ℕ) → After
+taken t b = after t.told (if eqb t.told.said.number 0 then first_of t.len b ∷ [] else []) t.left b
 
 -- one call, on a record and with a buffer lent
 unfoldable pub step : Connection → (b : List ℕ) → Call → After
 step c b (open_with s) = silent (opening c s) b
-step c b (frame id s) = (let r = arrived longest c id s (length b) in after r.told [] r.connection (buffered longest c id s b))
+step c b (frame id s) = (let r = arrived longest c id s (length b) in after r.told [] r.left (buffered longest c id s b))
 step c b (time n) = silent (elapsed c n) b
 step c b (due m) = handed (due_of c m) b
 step c b (send m) = silent (sent_by longest c (length m)) b

@@ -1,6 +1,9 @@
 // What a call of a record is answered with, on the side that opens and on the car's side alike, and what an answer says.
 ghost use Rattle.std.specs.Prelude.{◌≡◌};
-ghost use Rattle.open_end.specs.Answers.{plain, said, told};
+ghost use Rattle.open_end.specs.Answers.{plain, said, told, gives, marked, hand_over, hand_nothing, shows};
+
+use crate::{Frame, no_frame};
+use telegram::cutting::Message;
 
 // What a call is answered with.
 #[derive(Clone, Copy)]
@@ -78,5 +81,109 @@ pub fn tell(answer: Answer) -> Told
     Told {
         answer,
         said: say(answer),
+    }
+}
+
+// What a call tells, and the record that it leaves.
+#[derive(Clone, Copy)]
+pub struct Answered<R> {
+    pub told: Told,
+    pub left: R,
+}
+
+// What a frame that arrives tells, whether its telegram is padded, and the record that it leaves.
+#[derive(Clone, Copy)]
+pub struct Arrived<R> {
+    pub told: Told,
+    pub padded: bool,
+    pub left: R,
+}
+
+// A frame to hand over, if one is given; else ID 0 and no bytes.
+#[derive(Clone, Copy)]
+pub struct Due<R> {
+    pub told: Told,
+    pub given: bool,
+    pub frame: Frame,
+    pub left: R,
+}
+
+// What taking a message comes to: where it is shown, len is its declared length and flags are its flags, and else both are 0.
+#[derive(Clone, Copy)]
+pub struct TakeStep<R> {
+    pub told: Told,
+    pub len: usize,
+    pub flags: u16,
+    pub left: R,
+}
+
+// A message taken: the first part of the lent buffer, and nothing of it where none is shown; its flags, and 0 there.
+#[derive(Clone, Copy)]
+pub struct Taken<'a, R> {
+    pub told: Told,
+    pub flags: u16,
+    pub left: R,
+    pub message: &'a [u8],
+}
+
+impl<R> Answered<R> {
+    // The answer to a frame that arrives, with its telegram's mark.
+    pub fn marked(self, padded: bool) -> Arrived<R>
+        ensures { result ≡ marked padded self }
+    {
+        Arrived {
+            told: self.told,
+            padded,
+            left: self.left,
+        }
+    }
+}
+
+// A record that calls leave.
+pub trait Record: Sized {
+    // An answer that an open channel gives too, with this record left.
+    fn gives(self, answer: channel::Answer) -> Answered<Self>
+        ensures { result ≡ gives answer self }
+    {
+        Answered {
+            told: tell(Answer::Channel(answer)),
+            left: self,
+        }
+    }
+
+    // A frame is handed over, with this record left.
+    fn hand_over(self, frame: Frame) -> Due<Self>
+        ensures { result ≡ hand_over frame self }
+    {
+        Due {
+            told: tell(Answer::Channel(channel::Answer::Good)),
+            given: true,
+            frame,
+            left: self,
+        }
+    }
+
+    // No frame is handed over, with this record left.
+    fn hand_nothing(self) -> Due<Self>
+        ensures { result ≡ hand_nothing self }
+    {
+        Due {
+            told: tell(Answer::Channel(channel::Answer::Good)),
+            given: false,
+            frame: no_frame(),
+            left: self,
+        }
+    }
+
+    // What a take comes to, with this record left.
+    fn shows(self, answer: channel::Answer, message: Message) -> TakeStep<Self>
+        ensures { result ≡ shows answer message self }
+    {
+        TakeStep {
+            told: tell(Answer::Channel(answer)),
+            len: message.length as usize,
+            flags: message.flags,
+            left: self,
+        }
     }
 }

@@ -33,8 +33,8 @@ use Rattle.open_end.specs.declared.Course.TheVariants.{GoesOn, GivenUp, Leaves}
 use Rattle.open_end.specs.OpenEnd.{unopened, course_of, arrived_at, elapsed_at, due_at, sent_at, taken_at}
 use Rattle.connection.specs.declared.attempt.Attempt.{Attempt}
 use Rattle.connection.specs.declared.Connection.{Connection}
-use Rattle.connection.specs.declared.Answered.{Answered}
-use Rattle.connection.specs.declared.Arrived.{Arrived}
+use Rattle.open_end.specs.declared.answers.Answered.{Answered}
+use Rattle.open_end.specs.declared.answers.Arrived.{Arrived}
 use Rattle.settings.specs.Agreed.{agreed}
 use Rattle.connection.specs.Record.{no_attempt, closed_record, leaving_on, hears}
 use Rattle.connection.specs.Calls.{opening_as, on_reply, on_accept, on_agreeing, settled, on_open, arrived, attempt_elapsed, open_elapsed, elapsed, closed_due, request_due, open_due, due_of, open_sent, sent_by, open_taken, taken_by, closed}
@@ -84,7 +84,7 @@ stage-few (talking s k l x o) = record { requests = k; setups = l }
 
 -- ---- open
 
-opens-stage : {limit : ℕ} {t : Tally} {c : Connection} (p : Profile) (s : Settings) → ElevenBits p → Stage limit t c → Stage limit (tallied c t (opens p s)) (opening_as c p s).connection
+opens-stage : {limit : ℕ} {t : Tally} {c : Connection} (p : Profile) (s : Settings) → ElevenBits p → Stage limit t c → Stage limit (tallied c t (opens p s)) (opening_as c p s).left
 unfolding opening_as
 opens-stage p s b (at_rest f) = either (allowed_by p s) (λ e. rw e (requesting (record { eleven = b; ranges = (allowed-exactly p s).0 e }) (due-now zero-le))) (λ e. rw e (at_rest f))
 opens-stage p s b (leaving f x) = either (allowed_by p s) (λ e. rw e (requesting (record { eleven = b; ranges = (allowed-exactly p s).0 e }) (due-now zero-le))) (λ e. rw e (leaving f x))
@@ -105,7 +105,7 @@ settles-stage ch s k l x Leaves o = leaving (record { requests = k; setups = l }
 
 -- ---- close
 
-closes-stage : {limit : ℕ} {t : Tally} {c : Connection} → Stage limit t c → Stage limit t (closed c).connection
+closes-stage : {limit : ℕ} {t : Tally} {c : Connection} → Stage limit t c → Stage limit t (closed c).left
 unfolding closed
 closes-stage (at_rest f) = at_rest f
 closes-stage (leaving f x) = leaving f x
@@ -119,7 +119,7 @@ closes-stage (talking s k l x o) = leaving (record { requests = k; setups = l })
 waits-stage : {limit : ℕ} {t : Tally} (n w r : ℕ) (c : Connection) → c.attempt ≡ record { due = false; asked = true; wait = w; repeats = r } → 0 < w
     → ((v : ℕ) → 0 < v → Stage limit t (asking c (record { due = false; asked = true; wait = v; repeats = r })))
     → (r + 1 ≤ c.settings.mntc → Stage limit t (asking c (record { due = true; asked = true; wait = 0; repeats = r + 1 })))
-    → Few t → Stage limit t (attempt_elapsed c n).connection
+    → Few t → Stage limit t (attempt_elapsed c n).left
 unfolding attempt_elapsed
 waits-stage {limit} {t} n w r c e runs on again few =
     rw e
@@ -127,10 +127,10 @@ waits-stage {limit} {t} n w r c e runs on again few =
     by-lt P n w (λ less. on (w - n) (omega arith)) λ over.
     by_le P c.settings.mntc r (λ most. at_rest few) (λ less. again (omega arith)))
   where
-    P : Answered → Type 0
-    P x = Stage limit t x.connection
+    P : Answered Connection → Type 0
+    P x = Stage limit t x.left
 
-passes-stage : {limit : ℕ} {t : Tally} {c : Connection} (n : ℕ) → Stage limit t c → Stage limit t (elapsed c n).connection
+passes-stage : {limit : ℕ} {t : Tally} {c : Connection} (n : ℕ) → Stage limit t c → Stage limit t (elapsed c n).left
 unfolding elapsed attempt_elapsed open_elapsed elapsed_at
 passes-stage n (at_rest f) = at_rest f
 passes-stage n (leaving f x) = leaving f x
@@ -144,7 +144,7 @@ passes-stage n (talking {ch = ch} s k l x o) = settles-stage ch s k l x (course_
 
 -- ---- a message offered, a message taken
 
-sends-stage : {t : Tally} {c : Connection} (limit n : ℕ) → Stage limit t c → Stage limit t (sent_by limit c n).connection
+sends-stage : {t : Tally} {c : Connection} (limit n : ℕ) → Stage limit t c → Stage limit t (sent_by limit c n).left
 unfolding sent_by open_sent sent_at
 sends-stage limit n (at_rest f) = at_rest f
 sends-stage limit n (leaving f x) = leaving f x
@@ -152,7 +152,7 @@ sends-stage limit n (requesting s a) = requesting s a
 sends-stage limit n (agreeing s k a x) = agreeing s k a x
 sends-stage limit n (talking s k l x o) = talking s k l x (sent-open o n)
 
-takes-stage : {limit : ℕ} {t : Tally} {c : Connection} (room : ℕ) → Stage limit t c → Stage limit t (taken_by c room).connection
+takes-stage : {limit : ℕ} {t : Tally} {c : Connection} (room : ℕ) → Stage limit t c → Stage limit t (taken_by c room).left
 unfolding taken_by open_taken taken_at
 takes-stage room (at_rest f) = at_rest f
 takes-stage room (leaving f x) = leaving f x
@@ -162,7 +162,7 @@ takes-stage room (talking s k l x o) = talking s k l x (taken-open o room)
 
 -- ---- what is due
 
-asks-stage : {limit : ℕ} {t : Tally} {c : Connection} (m : List ℕ) → Stage limit t c → Stage limit (tallied c t (asks m)) (due_of c m).connection
+asks-stage : {limit : ℕ} {t : Tally} {c : Connection} (m : List ℕ) → Stage limit t c → Stage limit (tallied c t (asks m)) (due_of c m).left
 unfolding due_of closed_due request_due open_due due_at
 asks-stage m (at_rest f) = at_rest f
 asks-stage m (leaving f x) = at_rest f
@@ -189,16 +189,16 @@ reply-named p s receive = go (reply_for p s receive) refl
     go NoReply e = tt
 
 -- an answer leads to a stage, and so does an arrival
-abbrev Leads : (limit : ℕ) → Tally → Answered → Type 0
-Leads limit t x = Stage limit t x.connection
+abbrev Leads : (limit : ℕ) → Tally → Answered Connection → Type 0
+Leads limit t x = Stage limit t x.left
 
-abbrev Comes : (limit : ℕ) → Tally → Arrived → Type 0
-Comes limit t x = Stage limit t x.connection
+abbrev Comes : (limit : ℕ) → Tally → Arrived Connection → Type 0
+Comes limit t x = Stage limit t x.left
 
 -- the D0 leads on to the A0; a refusal closes
 reply-stage : {limit : ℕ} {p : Profile} {t : Settings} {a : Attempt} {k : ℕ} → Fits p t → Asking t.mntc a k → (r : Reply) → Named p r
     → Stage limit (record { most = t.mntc; requests = k; setups = 0 })
-    (on_reply (record { phase = 1; profile = p; settings = t; attempt = a; leaving = false; end = unopened 0 0 }) r).connection
+    (on_reply (record { phase = 1; profile = p; settings = t; attempt = a; leaving = false; end = unopened 0 0 }) r).left
 unfolding on_reply
 reply-stage s a NoReply n = requesting s a
 reply-stage {limit} {t = t} {a = b} {k} s a (RefusedBy opcode) n =
@@ -229,7 +229,7 @@ agreed-ours s p = record { block = omega arith; t1 = refl; repeats = refl; t_wai
 
 agrees-stage : {limit : ℕ} {p : Profile} {t : Settings} {a : Attempt} {k l transmit : ℕ} → Fits p t → k ≤ t.mntc + 1 → Asking t.mntc a l → Within p.transmits transmit → (kind : Telegram)
     → Stage limit (record { most = t.mntc; requests = k; setups = l })
-    (on_agreeing (record { phase = 2; profile = p; settings = t; attempt = a; leaving = false; end = unopened transmit t.receive }) kind).connection
+    (on_agreeing (record { phase = 2; profile = p; settings = t; attempt = a; leaving = false; end = unopened transmit t.receive }) kind).left
 unfolding on_agreeing on_accept
 agrees-stage {limit} {p = q} {t = t} {a = b} {k = i} {l = j} s k a x (Accept p) =
     by-not (Leads limit (record { most = t.mntc; requests = i; setups = j })) b.asked (λ _. agreeing s k a x) λ _.
@@ -247,7 +247,7 @@ agrees-stage s k a x (Setup p) = agreeing s k a x
 rest-bytes : (s : List ℕ) → Bytes s → Bytes (drop 1 s)
 rest-bytes s h i = rw (get_or-drop 1 s i 0) (h (1 + i))
 
-comes-stage : {t : Tally} {c : Connection} (limit id : ℕ) (s : List ℕ) (room : ℕ) → Bytes s → Stage limit t c → Stage limit t (arrived limit c id s room).connection
+comes-stage : {t : Tally} {c : Connection} (limit id : ℕ) (s : List ℕ) (room : ℕ) → Bytes s → Stage limit t c → Stage limit t (arrived limit c id s room).left
 unfolding arrived on_open arrived_at
 comes-stage limit id s room h (at_rest f) = at_rest f
 comes-stage limit id s room h (leaving f x) = leaving f x

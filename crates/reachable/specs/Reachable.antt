@@ -17,7 +17,7 @@ use Rattle.channel.specs.declared.Parameters.{Parameters}
 use Rattle.channel.specs.declared.Tests.{Tests}
 use Rattle.channel.specs.Opened.{test_due}
 use Rattle.connection.specs.declared.Connection.{Connection}
-use Rattle.connection.specs.declared.Due.{Due}
+use Rattle.open_end.specs.declared.answers.Due.{Due}
 use Rattle.connection.specs.Record.{closed_record}
 use Rattle.connection.specs.Calls.{opening_as, arrived, elapsed, due_of, sent_by, taken_by, closed}
 
@@ -55,13 +55,13 @@ AllOfBytes (x ∷ xs) = OfBytes x × AllOfBytes xs
 
 -- the record that a call leaves
 abbrev pub step : (limit : ℕ) → Connection → Call → Connection
-step limit c (opens p s) = (opening_as c p s).connection
-step limit c (comes id s room) = (arrived limit c id s room).connection
-step limit c (passes n) = (elapsed c n).connection
-step limit c (asks m) = (due_of c m).connection
-step limit c (sends n) = (sent_by limit c n).connection
-step limit c (takes room) = (taken_by c room).connection
-step limit c closes = (closed c).connection
+step limit c (opens p s) = (opening_as c p s).left
+step limit c (comes id s room) = (arrived limit c id s room).left
+step limit c (passes n) = (elapsed c n).left
+step limit c (asks m) = (due_of c m).left
+step limit c (sends n) = (sent_by limit c n).left
+step limit c (takes room) = (taken_by c room).left
+step limit c closes = (closed c).left
 
 -- what an opening handed over since the last open answered 0: how many C0s and A0s, and the repeats that its settings allow
 pub record Tally : Type 0 where
@@ -204,7 +204,7 @@ pub record Awake (c : Connection) : Type 0 where
 -- ---- what is handed over
 
 -- a frame on the ID of the profile's C0 (0x200 in TP 2.0) or the transmit ID, of eleven bits, with 1 to 8 bytes
-pub record Framed (c : Connection) (d : Due) : Type 0 where
+pub record Framed (c : Connection) (d : Due Connection) : Type 0 where
   pub on : (d.frame.id ≡ c.profile.request) ⊎ (d.frame.id ≡ c.end.transmit)
   pub id : d.frame.id < 0x800
   pub some : 1 ≤ d.frame.payload.len

@@ -22,8 +22,8 @@ use Rattle.open_end.specs.Answers.{said}
 use Rattle.open_end.specs.OpenEnd.{arrived_at}
 use Rattle.open_end.proofs.Rules.{plainly, no_frame}
 use Rattle.connection.specs.declared.Connection.{Connection}
-use Rattle.connection.specs.declared.Answered.{Answered as RecordAnswered}
-use Rattle.connection.specs.declared.Arrived.{Arrived as RecordArrived}
+use Rattle.open_end.specs.declared.answers.Answered.{Answered as RecordAnswered}
+use Rattle.open_end.specs.declared.answers.Arrived.{Arrived as RecordArrived}
 use Rattle.connection.specs.Record.{is_closed, is_requesting, is_agreeing, listens_on, hears}
 use Rattle.connection.specs.Calls.{on_reply, on_accept, on_agreeing, on_open, arrived, buffered, elapsed, due_of, sent_by, taken_by, closed}
 use Rattle.table.specs.declared.Table.{Table}
@@ -90,11 +90,11 @@ abbrev pub three : Table → Arrived
 three t = record { told = record { answer = OtherId; said = record { number = 3; done = false; opcode = 0 } }; padded = false; place = Nowhere; table = t }
 
 -- the answer and the mark of a place's record, that place named, and that place alone changed
-pub record Goes (t : Table) (p : ℕ) (r : RecordArrived) (a : Arrived) : Type 0 where
+pub record Goes (t : Table) (p : ℕ) (r : RecordArrived Connection) (a : Arrived) : Type 0 where
   pub told : a.told ≡ r.told
   pub padded : a.padded ≡ r.padded
   pub place : a.place ≡ At p
-  pub table : Alone t p r.connection a.table
+  pub table : Alone t p r.left a.table
 
 -- no answer of an open channel is 3
 channel-not-3 : (a : ChannelAnswer) → (said (Channel a)).number ≢ 3
@@ -112,7 +112,7 @@ channel-not-3 UsedUp = λ e. omega arith
 channel-not-3 (Broken c) = λ e. omega arith
 channel-not-3 NoChange = λ e. omega arith
 
-abbrev Not3 : RecordAnswered → Type 0
+abbrev Not3 : RecordAnswered Connection → Type 0
 Not3 r = r.told.said.number ≢ 3
 
 module _ (c : Connection) where
@@ -142,7 +142,7 @@ module _ (c : Connection) where
       by 3-not (is_requesting c) (λ _. reply-not-3 (reply_for c.profile s c.settings.receive)) λ _.
       by 3-not (is_agreeing c) (λ _. agreeing-not-3 (sorted_by c.profile s).kind) (λ _. channel-not-3 (arrived_at limit c.end (sorted_by c.profile s).kind s room).answer)
     where
-      3-not : RecordArrived → Type 0
+      3-not : RecordArrived Connection → Type 0
       3-not r = r.told.said.number ≢ 3
 
 module _ (limit : ℕ) (t : Table) (id : ℕ) (s : List ℕ) (room : ℕ) where
@@ -157,7 +157,7 @@ module _ (limit : ℕ) (t : Table) (id : ℕ) (s : List ℕ) (room : ℕ) where
   unfolding arrives
   arrive-owner p h hear below =
       rw (is-owner t id p h hear below, lt-leb 8 p h)
-      (record { told = refl; padded = refl; place = refl; table = alone t p (arrived limit (record_at t p) id s room).connection _ h refl })
+      (record { told = refl; padded = refl; place = refl; table = alone t p (arrived limit (record_at t p) id s room).left _ h refl })
 
   -- 3 exactly where no place listens
   pub arrive-3-exactly : (arrives limit t id s room).told.said.number ≡ 3 ↔ NoneListens t id
@@ -184,9 +184,9 @@ module _ (limit : ℕ) (t : Table) (id : ℕ) (s b : List ℕ) where
 -- ---- "Every other call names its place, 0 to 7 (else 4)"
 
 -- the answer of a place's record, and that place alone changed
-pub record Answers (t : Table) (p : ℕ) (r : RecordAnswered) (a : Answered) : Type 0 where
+pub record Answers (t : Table) (p : ℕ) (r : RecordAnswered Connection) (a : Answered) : Type 0 where
   pub told : a.told ≡ r.told
-  pub table : Alone t p r.connection a.table
+  pub table : Alone t p r.left a.table
 
 module _ (t : Table) (p : ℕ) (out : 8 ≤ p) where
   -- "(else 4)": nothing changed, nothing given
@@ -218,32 +218,32 @@ module _ (t : Table) (p : ℕ) (h : p < 8) where
   -- a call that names a place is that record's, and no other's
   pub elapse-at : (n : ℕ) → Answers t p (elapsed (record_at t p) n) (elapses t p n)
   unfolding elapses
-  elapse-at n = rw (lt-leb 8 p h) (record { told = refl; table = alone t p (elapsed (record_at t p) n).connection _ h refl })
+  elapse-at n = rw (lt-leb 8 p h) (record { told = refl; table = alone t p (elapsed (record_at t p) n).left _ h refl })
 
   pub due-at : (m : List ℕ)
       → (((hands t p m).told ≡ (due_of (record_at t p) m).told) × ((hands t p m).given ≡ (due_of (record_at t p) m).given) × ((hands t p m).frame ≡ (due_of (record_at t p) m).frame)
-      × Alone t p (due_of (record_at t p) m).connection (hands t p m).table)
+      × Alone t p (due_of (record_at t p) m).left (hands t p m).table)
   unfolding hands
-  due-at m = rw (lt-leb 8 p h) (refl, refl, refl, alone t p (due_of (record_at t p) m).connection _ h refl)
+  due-at m = rw (lt-leb 8 p h) (refl, refl, refl, alone t p (due_of (record_at t p) m).left _ h refl)
 
   pub send_at : (limit n : ℕ) → Answers t p (sent_by limit (record_at t p) n) (sends limit t p n)
   unfolding sends
-  send_at limit n = rw (lt-leb 8 p h) (record { told = refl; table = alone t p (sent_by limit (record_at t p) n).connection _ h refl })
+  send_at limit n = rw (lt-leb 8 p h) (record { told = refl; table = alone t p (sent_by limit (record_at t p) n).left _ h refl })
 
   pub take_at : (room : ℕ)
       → (((takes t p room).told ≡ (taken_by (record_at t p) room).told) × ((takes t p room).len ≡ (taken_by (record_at t p) room).len)
-      × ((takes t p room).flags ≡ (taken_by (record_at t p) room).flags) × Alone t p (taken_by (record_at t p) room).connection (takes t p room).table)
+      × ((takes t p room).flags ≡ (taken_by (record_at t p) room).flags) × Alone t p (taken_by (record_at t p) room).left (takes t p room).table)
   unfolding takes
-  take_at room = rw (lt-leb 8 p h) (refl, refl, refl, alone t p (taken_by (record_at t p) room).connection _ h refl)
+  take_at room = rw (lt-leb 8 p h) (refl, refl, refl, alone t p (taken_by (record_at t p) room).left _ h refl)
 
   -- the message shown is that of the record alone: the first part of the lent buffer, where it lies
   pub shown-at : (b : Bor (List ℕ))
       → (((shows t p b).told ≡ (taken_by (record_at t p) (length b.now)).told) × ((shows t p b).flags ≡ (taken_by (record_at t p) (length b.now)).flags)
       × ((shows t p b).place ≡ b.ref_ptr) × ((shows t p b).message ≡ take (taken_by (record_at t p) (length b.now)).len b.now)
-      × Alone t p (taken_by (record_at t p) (length b.now)).connection (shows t p b).table)
+      × Alone t p (taken_by (record_at t p) (length b.now)).left (shows t p b).table)
   unfolding takes
-  shown-at b = rw (lt-leb 8 p h) (refl, refl, refl, refl, alone t p (taken_by (record_at t p) (length b.now)).connection _ h refl)
+  shown-at b = rw (lt-leb 8 p h) (refl, refl, refl, refl, alone t p (taken_by (record_at t p) (length b.now)).left _ h refl)
 
   pub close_at : Answers t p (closed (record_at t p)) (closes t p)
   unfolding closes
-  close_at = rw (lt-leb 8 p h) (record { told = refl; table = alone t p (closed (record_at t p)).connection _ h refl })
+  close_at = rw (lt-leb 8 p h) (record { told = refl; table = alone t p (closed (record_at t p)).left _ h refl })

@@ -179,7 +179,7 @@ opens-outcome t s =
           lowest = λ j h. eqb-false _ 0 (free-first t j h);
           told = ap (λ r. r.told) leaves;
           place = rw (lt-leb 8 (free_of t) some);
-          table = alone t (free_of t) (opening (record_at t (free_of t)) s).connection (asking s) some (ap (λ r. r.connection) leaves);
+          table = alone t (free_of t) (opening (record_at t (free_of t)) s).left (asking s) some (ap (λ r. r.left) leaves);
         },
       ),
     ))

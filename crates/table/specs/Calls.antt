@@ -8,7 +8,8 @@ use Rattle.open_end.specs.declared.answers.Answer.TheVariants.{Channel, OtherId,
 use Rattle.open_end.specs.declared.answers.Told.{Told}
 use Rattle.open_end.specs.Answers.{told}
 use Rattle.open_end.specs.OpenEnd.{no_frame}
-use Rattle.connection.specs.declared.Answered.{Answered as RecordAnswered}
+use Rattle.open_end.specs.declared.answers.Answered.{Answered as RecordAnswered}
+use Rattle.connection.specs.declared.Connection.{Connection}
 use Rattle.connection.specs.Calls.{opening, arrived, buffered, elapsed, due_of, sent_by, taken_by, closed}
 use Rattle.table.specs.declared.Table.{Table}
 use Rattle.table.specs.declared.Place.TheVariants.{Nowhere}
@@ -39,7 +40,7 @@ opens t s =
     else if not (allowed s) then refuses t
     else
     (let r = opening (at t (free_of t)) s in
-    record { told = r.told; place = named (free_of t); table = with t (free_of t) r.connection })
+    record { told = r.told; place = named (free_of t); table = with t (free_of t) r.left })
 
 -- ---- a frame arrives
 
@@ -49,7 +50,7 @@ arrives limit t id s room =
     if leb places (owner_of t id) then record { told = told OtherId; padded = false; place = Nowhere; table = t }
     else
     (let r = arrived limit (at t (owner_of t id)) id s room in
-    record { told = r.told; padded = r.padded; place = named (owner_of t id); table = with t (owner_of t id) r.connection })
+    record { told = r.told; padded = r.padded; place = named (owner_of t id); table = with t (owner_of t id) r.left })
 
 -- the lent buffer after it: the owner's
 unfoldable pub buffers : (limit : ℕ) → Table → (id : ℕ) → (s b : List ℕ) → List ℕ
@@ -62,8 +63,8 @@ abbrev pub nowhere : Table → Answered
 nowhere t = record { told = told (Channel NotDue); table = t }
 
 -- what the record at a place answers, and the table with what it leaves there
-abbrev pub answers : Table → (place : ℕ) → RecordAnswered → Answered
-answers t p r = record { told = r.told; table = with t p r.connection }
+abbrev pub answers : Table → (place : ℕ) → RecordAnswered Connection → Answered
+answers t p r = record { told = r.told; table = with t p r.left }
 
 -- time passes
 unfoldable pub elapses : Table → (place : ℕ) → ℕ → Answered
@@ -73,7 +74,7 @@ elapses t p n = if leb places p then nowhere t else answers t p (elapsed (at t p
 unfoldable pub hands : Table → (place : ℕ) → List ℕ → Due
 hands t p m =
     if leb places p then record { told = told (Channel NotDue); given = false; frame = no_frame; table = t }
-    else (let d = due_of (at t p) m in record { told = d.told; given = d.given; frame = d.frame; table = with t p d.connection })
+    else (let d = due_of (at t p) m in record { told = d.told; given = d.given; frame = d.frame; table = with t p d.left })
 
 -- a message of n bytes is offered
 unfoldable pub sends : (limit : ℕ) → Table → (place : ℕ) → ℕ → Answered
@@ -83,7 +84,7 @@ sends limit t p n = if leb places p then nowhere t else answers t p (sent_by lim
 unfoldable pub takes : Table → (place : ℕ) → (room : ℕ) → TakeStep
 takes t p room =
     if leb places p then record { told = told (Channel NotDue); len = 0; flags = 0; table = t }
-    else (let r = taken_by (at t p) room in record { told = r.told; len = r.len; flags = r.flags; table = with t p r.connection })
+    else (let r = taken_by (at t p) room in record { told = r.told; len = r.len; flags = r.flags; table = with t p r.left })
 
 -- what a caller sees of a take: the message's flags, where its first byte lies, and its bytes
 pub record Look : Type 0 where

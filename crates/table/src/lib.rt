@@ -218,7 +218,7 @@ impl Table {
         let c = self.places[p];
         let r = c.open(settings);
         let told = r.told;
-        let next = r.connection;
+        let next = r.left;
         self.places[p] = next;
         Opened {
             told,
@@ -244,7 +244,7 @@ impl Table {
         let c = self.places[p];
         let r = c.arrive(id, bytes, buffer);
         let told = r.told;
-        let next = r.connection;
+        let next = r.left;
         self.places[p] = next;
         Arrived {
             told,
@@ -275,7 +275,7 @@ impl Table {
         let c = self.places[p];
         let r = c.elapse(tenths);
         let told = r.told;
-        let next = r.connection;
+        let next = r.left;
         self.places[p] = next;
         Answered { told, table: self }
     }
@@ -297,7 +297,7 @@ impl Table {
         let d = c.due(message);
         let told = d.told;
         let frame = d.frame;
-        let next = d.connection;
+        let next = d.left;
         self.places[p] = next;
         Due {
             told,
@@ -318,7 +318,7 @@ impl Table {
         let c = self.places[p];
         let r = c.send(message);
         let told = r.told;
-        let next = r.connection;
+        let next = r.left;
         self.places[p] = next;
         Answered { told, table: self }
     }
@@ -339,7 +339,7 @@ impl Table {
         let c = self.places[p];
         let t = c.take_step(room);
         let told = t.told;
-        let next = t.connection;
+        let next = t.left;
         self.places[p] = next;
         TakeStep {
             told,
@@ -374,7 +374,7 @@ impl Table {
         let c = self.places[p];
         let r = c.close();
         let told = r.told;
-        let next = r.connection;
+        let next = r.left;
         self.places[p] = next;
         Answered { told, table: self }
     }

@@ -19,10 +19,11 @@ use Rattle.channel.specs.declared.Answer.TheVariants.{Good}
 use Rattle.open_end.specs.declared.Frame.{Frame}
 use Rattle.connection.specs.declared.Connection.{Connection}
 use Rattle.connection.specs.Record.{listens_on, hears, requesting, agreeing, opened}
-use Rattle.connection.specs.Calls.{gives, marked, hand_over, opening_as, arrived, due_of}
+use Rattle.connection.specs.Calls.{opening_as, arrived, due_of}
+use Rattle.open_end.specs.Answers.{gives, marked, hand_over, gives as unit_gives, marked as unit_marked, hand_over as unit_hands_over}
 use Rattle.unit.specs.declared.ControlUnit.{ControlUnit}
 use Rattle.unit.specs.Record.{phase_replied, phase_open, settable, closed_with, accepting, at_phase}
-use Rattle.unit.specs.Calls.{gives as unit_gives, marked as unit_marked, hand_over as unit_hands_over, arrived as unit_arrived, due_of as unit_due}
+use Rattle.unit.specs.Calls.{arrived as unit_arrived, due_of as unit_due}
 use Rattle.unit.proofs.Rules.{settable-exactly}
 use Rattle.table.specs.declared.Table.{Table}
 use Rattle.table.specs.declared.Place.TheVariants.{At}

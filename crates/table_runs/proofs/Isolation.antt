@@ -145,11 +145,11 @@ module _ (limit : ℕ) where
   rest-stays d (open' s) ok l r = absurd ok
   rest-stays d (frame id bytes room) ok l r =
       absurd (true≢false (sym (owner-hears d.table id l) ∙ rw r (hears-closed closed_record refl id)))
-  rest-stays d (time p n) ok l r = ap (λ v. ((elapsed v n).connection, buffer_at d p)) r ∙ ap (λ v. (v, buffer_at d p)) (sym r)
-  rest-stays d (due p m) ok l r = ap (λ v. ((due_of v m).connection, buffer_at d p)) r ∙ ap (λ v. (v, buffer_at d p)) (sym r)
-  rest-stays d (send p n) ok l r = ap (λ v. ((sent_by limit v n).connection, buffer_at d p)) r ∙ ap (λ v. (v, buffer_at d p)) (sym r)
-  rest-stays d (take p room) ok l r = ap (λ v. ((taken_by v room).connection, buffer_at d p)) r ∙ ap (λ v. (v, buffer_at d p)) (sym r)
-  rest-stays d (close p) ok l r = ap (λ v. ((closed v).connection, buffer_at d p)) r ∙ ap (λ v. (v, buffer_at d p)) (sym r)
+  rest-stays d (time p n) ok l r = ap (λ v. ((elapsed v n).left, buffer_at d p)) r ∙ ap (λ v. (v, buffer_at d p)) (sym r)
+  rest-stays d (due p m) ok l r = ap (λ v. ((due_of v m).left, buffer_at d p)) r ∙ ap (λ v. (v, buffer_at d p)) (sym r)
+  rest-stays d (send p n) ok l r = ap (λ v. ((sent_by limit v n).left, buffer_at d p)) r ∙ ap (λ v. (v, buffer_at d p)) (sym r)
+  rest-stays d (take p room) ok l r = ap (λ v. ((taken_by v room).left, buffer_at d p)) r ∙ ap (λ v. (v, buffer_at d p)) (sym r)
+  rest-stays d (close p) ok l r = ap (λ v. ((closed v).left, buffer_at d p)) r ∙ ap (λ v. (v, buffer_at d p)) (sym r)
 
   -- a call of the one connection's own, in one run
   own : {x : ℕ} {d e : Desk} (c : Call) → NoOpening c → OfItsOwn d x c → Alike x d e → Alike x (after limit d c) e

@@ -19,10 +19,10 @@ use Rattle.open_end.specs.declared.Course.TheVariants.{GoesOn, GivenUp, Leaves}
 use Rattle.open_end.specs.OpenEnd.{course_of, arrived_at, elapsed_at, due_at, sent_at, taken_at}
 use Rattle.connection.specs.declared.attempt.Attempt.{Attempt}
 use Rattle.connection.specs.declared.Connection.{Connection}
-use Rattle.connection.specs.declared.Answered.{Answered}
-use Rattle.connection.specs.declared.Arrived.{Arrived}
-use Rattle.connection.specs.declared.Due.{Due}
-use Rattle.connection.specs.declared.TakeStep.{TakeStep}
+use Rattle.open_end.specs.declared.answers.Answered.{Answered}
+use Rattle.open_end.specs.declared.answers.Arrived.{Arrived}
+use Rattle.open_end.specs.declared.answers.Due.{Due}
+use Rattle.open_end.specs.declared.answers.TakeStep.{TakeStep}
 use Rattle.connection.specs.Record.{is_closed, is_requesting, is_agreeing, is_open, with_attempt, with_open_end, hears}
 use Rattle.connection.specs.Calls.{on_reply, on_accept, on_agreeing, settled, on_open, arrived, attempt_elapsed, open_elapsed, elapsed, closed_due, request_due, open_due, due_of, open_sent, sent_by, open_taken, taken_by, closed}
 use Rattle.table_runs.specs.Runs.{Settled}
@@ -40,11 +40,11 @@ module _ (c : Connection) where
     pub goes_on : is_closed d ≡ false → GoesOnAs c d
 
   -- in what the calls give
-  abbrev Answers : Answered → Type 0
-  Answers x = Left x.connection
+  abbrev Answers : Answered Connection → Type 0
+  Answers x = Left x.left
 
-  abbrev Hands : Due → Type 0
-  Hands x = Left x.connection
+  abbrev Hands : Due Connection → Type 0
+  Hands x = Left x.left
 
   -- ---- the records that calls leave
 
@@ -83,7 +83,7 @@ module _ (c : Connection) where
   -- ---- a frame arrives
 
   -- the D0 leads on to the A0, and from then on the record listens on its receive ID
-  reply-left : is_closed c ≡ false → (r : Reply) → Left (on_reply c r).connection
+  reply-left : is_closed c ≡ false → (r : Reply) → Left (on_reply c r).left
   unfolding on_reply
   reply-left u NoReply = unchanged
   reply-left u (Refused opcode) = by-not Answers c.attempt.asked (λ _. unchanged) (λ _. gone refl refl)
@@ -91,7 +91,7 @@ module _ (c : Connection) where
       by-not Answers c.attempt.asked (λ _. unchanged) (λ _. going refl refl (λ _. u) (λ k _. refl))
 
   -- the A1 opens it on the same ID
-  agreeing-left : is_closed c ≡ false → is_requesting c ≡ false → (kind : Telegram) → Left (on_agreeing c kind).connection
+  agreeing-left : is_closed c ≡ false → is_requesting c ≡ false → (kind : Telegram) → Left (on_agreeing c kind).left
   unfolding on_agreeing on_accept
   agreeing-left u r (Accept p) =
       by-not Answers c.attempt.asked (λ _. unchanged) λ _.
@@ -105,11 +105,11 @@ module _ (c : Connection) where
   agreeing-left u r (Setup p) = unchanged
 
   -- the open end answers
-  open-left : (limit : ℕ) (t : Telegram) (s : List ℕ) (room : ℕ) → Left (on_open limit c t s room).connection
+  open-left : (limit : ℕ) (t : Telegram) (s : List ℕ) (room : ℕ) → Left (on_open limit c t s room).left
   unfolding on_open arrived_at
   open-left limit t s room = settled-left (course_of (arrived_at limit c.end t s room).answer) _ refl
 
-  pub arrived-left : (limit id : ℕ) (s : List ℕ) (room : ℕ) → Left (arrived limit c id s room).connection
+  pub arrived-left : (limit id : ℕ) (s : List ℕ) (room : ℕ) → Left (arrived limit c id s room).left
   unfolding arrived
   arrived-left limit id s room =
       by Arrives (is_closed c) (λ _. unchanged) λ u.
@@ -117,20 +117,20 @@ module _ (c : Connection) where
       by Arrives (is_requesting c) (λ _. reply-left u (reply_for c.profile s c.settings.receive)) λ r.
       by Arrives (is_agreeing c) (λ _. agreeing-left u r (sorted_by c.profile s).kind) (λ _. open-left limit (sorted_by c.profile s).kind s room)
     where
-      Arrives : Arrived → Type 0
-      Arrives x = Left x.connection
+      Arrives : Arrived Connection → Type 0
+      Arrives x = Left x.left
 
   -- ---- time passes
 
   -- while a reply is awaited
-  attempt-left : (n : ℕ) → Left (attempt_elapsed c n).connection
+  attempt-left : (n : ℕ) → Left (attempt_elapsed c n).left
   unfolding attempt_elapsed
   attempt-left n =
       by-eq Answers c.attempt.wait 0 (λ _. unchanged) λ _.
       by-lt Answers n c.attempt.wait (λ _. with-attempt _) λ _.
       by_le Answers c.settings.mntc c.attempt.repeats (λ _. gone refl refl) (λ _. with-attempt _)
 
-  pub elapsed-left : (n : ℕ) → Left (elapsed c n).connection
+  pub elapsed-left : (n : ℕ) → Left (elapsed c n).left
   unfolding elapsed open_elapsed elapsed_at
   elapsed-left n =
       by Answers (is_closed c) (λ _. unchanged) λ _.
@@ -139,11 +139,11 @@ module _ (c : Connection) where
   -- ---- what is due
 
   -- a request of the opening
-  request-left : (f : Frame) → Left (request_due c f).connection
+  request-left : (f : Frame) → Left (request_due c f).left
   unfolding request_due
   request-left f = by-not Hands c.attempt.due (λ _. unchanged) (λ _. with-attempt _)
 
-  pub due-left : (m : List ℕ) → Left (due_of c m).connection
+  pub due-left : (m : List ℕ) → Left (due_of c m).left
   unfolding due_of closed_due open_due due_at
   due-left m =
       by Hands (is_closed c) (λ _. by-not Hands c.leaving (λ _. unchanged) (λ _. gone refl refl)) λ _.
@@ -152,14 +152,14 @@ module _ (c : Connection) where
 
   -- ---- send, take and close
 
-  pub sent-left : (limit n : ℕ) → Left (sent_by limit c n).connection
+  pub sent-left : (limit n : ℕ) → Left (sent_by limit c n).left
   unfolding sent_by open_sent sent_at
   sent-left limit n = by-not Answers (is_open c) (λ _. unchanged) (λ _. with-end _ refl)
 
-  pub taken-left : (room : ℕ) → Left (taken_by c room).connection
+  pub taken-left : (room : ℕ) → Left (taken_by c room).left
   unfolding taken_by open_taken taken_at
-  taken-left room = by-not (λ (x : TakeStep). Left x.connection) (is_open c) (λ _. unchanged) (λ _. with-end _ refl)
+  taken-left room = by-not (λ (x : TakeStep Connection). Left x.left) (is_open c) (λ _. unchanged) (λ _. with-end _ refl)
 
-  pub closed-left : Left (closed c).connection
+  pub closed-left : Left (closed c).left
   unfolding closed
   closed-left = by Answers (is_closed c) (λ _. unchanged) λ _. by Answers (is_requesting c) (λ _. gone refl refl) (λ _. gone refl refl)

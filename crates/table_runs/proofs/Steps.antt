@@ -36,12 +36,12 @@ put t p d = if leb places p then t else with t p d
 -- the record that a call puts at the place that it goes to
 abbrev pub leaves : (limit : ℕ) → Table → Call → Connection
 leaves limit t (open' s) = requesting s
-leaves limit t (frame id bytes room) = (arrived limit (at t (owner_of t id)) id bytes room).connection
-leaves limit t (time p n) = (elapsed (at t p) n).connection
-leaves limit t (due p m) = (due_of (at t p) m).connection
-leaves limit t (send p n) = (sent_by limit (at t p) n).connection
-leaves limit t (take p room) = (taken_by (at t p) room).connection
-leaves limit t (close p) = (closed (at t p)).connection
+leaves limit t (frame id bytes room) = (arrived limit (at t (owner_of t id)) id bytes room).left
+leaves limit t (time p n) = (elapsed (at t p) n).left
+leaves limit t (due p m) = (due_of (at t p) m).left
+leaves limit t (send p n) = (sent_by limit (at t p) n).left
+leaves limit t (take p room) = (taken_by (at t p) room).left
+leaves limit t (close p) = (closed (at t p)).left
 
 -- an opening puts its record at the lowest closed place, if it is taken
 opens-put : (t : Table) (s : Settings) → (opens t s).table ≡ put t (number_of (opens t s).place) (requesting s)

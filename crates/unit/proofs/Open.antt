@@ -76,7 +76,7 @@ module _ (c : ControlUnit) (open' : 6 ≤ c.phase) where
           ≡ record {
             told = record { answer = ByChannel r.answer; said = record { number = (said r.answer).number; done = (said r.answer).done; opcode = 0 } };
             padded = (sorted (b ∷ p)).padded;
-            unit = holding c r.channel;
+            left = holding c r.channel;
           })
       unfolding arrived at_end arrived_at course_of settled
       arrived-goes-on room d h =
@@ -85,7 +85,7 @@ module _ (c : ControlUnit) (open' : 6 ≤ c.phase) where
 
       -- 8: closed, nothing due; the settings stay
       pub arrived-used-up : (room : ℕ) → NotSetup (sorted (b ∷ p)).kind → (channel_arrived limit c.end.channel (sorted (b ∷ p)).kind p room).answer ≡ UsedUp
-          → arrived limit c id (b ∷ p) room ≡ record { told = plainly UsedUp 8; padded = (sorted (b ∷ p)).padded; unit = resting c.settings c.reply }
+          → arrived limit c id (b ∷ p) room ≡ record { told = plainly UsedUp 8; padded = (sorted (b ∷ p)).padded; left = resting c.settings c.reply }
       unfolding arrived at_end arrived_at course_of settled
       arrived-used-up room d e =
           rw (ne_eqb id 0x200 other, le-ltb c.phase 3 (omega arith), eq-eqb _ _ heard, lt-ltb 5 c.phase open', at-the-end limit c (sorted (b ∷ p)).kind (b ∷ p) room d, e)
@@ -102,7 +102,7 @@ module _ (c : ControlUnit) (open' : 6 ≤ c.phase) where
         ≡ record {
           told = plainly Disconnected 0;
           padded = false;
-          unit = record { phase = 1; reply = c.reply; settings = c.settings; end = record { transmit = c.end.transmit; receive = 0; channel = no_channel } };
+          left = record { phase = 1; reply = c.reply; settings = c.settings; end = record { transmit = c.end.transmit; receive = 0; channel = no_channel } };
         }
     unfolding arrived on_open at_end arrived_at channel_arrived answered kind_of course_of settled
     arrived-disconnect room = rw (ne_eqb id 0x200 other, le-ltb c.phase 3 (omega arith), eq-eqb _ _ heard, lt-ltb 5 c.phase open')
@@ -115,12 +115,12 @@ module _ (c : ControlUnit) (open' : 6 ≤ c.phase) where
   -- ---- time passes
 
   pub elapsed-open : (n : ℕ) → (channel_elapsed c.end.channel n).answer ≡ Good
-      → elapsed c n ≡ record { told = plainly Good 0; unit = holding c (channel_elapsed c.end.channel n).channel }
+      → elapsed c n ≡ record { told = plainly Good 0; left = holding c (channel_elapsed c.end.channel n).channel }
   unfolding elapsed open_elapsed elapsed_at course_of settled
   elapsed-open n e = rw (lt-ltb 5 c.phase open', e)
 
   -- its own repeats or tests used up: closed, nothing due; settings and reply stay (B47)
-  pub elapsed-used-up : (n : ℕ) → (channel_elapsed c.end.channel n).answer ≡ UsedUp → elapsed c n ≡ record { told = plainly UsedUp 8; unit = resting c.settings c.reply }
+  pub elapsed-used-up : (n : ℕ) → (channel_elapsed c.end.channel n).answer ≡ UsedUp → elapsed c n ≡ record { told = plainly UsedUp 8; left = resting c.settings c.reply }
   unfolding elapsed open_elapsed elapsed_at course_of settled
   elapsed-used-up n e = rw (lt-ltb 5 c.phase open', e)
 
@@ -134,7 +134,7 @@ module _ (c : ControlUnit) (open' : 6 ≤ c.phase) where
         told = record { answer = ByChannel d.answer; said = record { number = (said d.answer).number; done = (said d.answer).done; opcode = 0 } };
         given = true;
         frame = record { id = c.end.transmit; payload = d.payload };
-        unit = holding c d.channel;
+        left = holding c d.channel;
       })
   unfolding due_of open_due due_at frame_on
   due_of-given m g = rw (not_at 1 (omega arith), not_at 2 (omega arith), not_at 3 (omega arith), not_at 5 (omega arith), lt-ltb 5 c.phase open', g)
@@ -147,7 +147,7 @@ module _ (c : ControlUnit) (open' : 6 ≤ c.phase) where
         told = record { answer = ByChannel d.answer; said = record { number = (said d.answer).number; done = (said d.answer).done; opcode = 0 } };
         given = false;
         frame = no_frame;
-        unit = holding c d.channel;
+        left = holding c d.channel;
       })
   unfolding due_of open_due due_at frame_on
   due_of-none m g = rw (not_at 1 (omega arith), not_at 2 (omega arith), not_at 3 (omega arith), not_at 5 (omega arith), lt-ltb 5 c.phase open', g)
@@ -158,17 +158,17 @@ module _ (c : ControlUnit) (open' : 6 ≤ c.phase) where
       sent_by limit c n
       ≡ record {
         told = record { answer = ByChannel r.answer; said = record { number = (said r.answer).number; done = (said r.answer).done; opcode = 0 } };
-        unit = holding c r.channel;
+        left = holding c r.channel;
       })
   unfolding sent_by open_sent sent_at
   sent_by-open limit n = rw (lt-ltb 5 c.phase open')
 
   -- row 5, "take with none complete"; then row 7, "lent buffer shorter than the declared length": nothing changes
-  pub taken_by-none : (room : ℕ) → c.end.channel.receiver.complete.length ≡ 0 → taken_by c room ≡ record { told = plainly Busy 5; len = 0; flags = 0; unit = c }
+  pub taken_by-none : (room : ℕ) → c.end.channel.receiver.complete.length ≡ 0 → taken_by c room ≡ record { told = plainly Busy 5; len = 0; flags = 0; left = c }
   unfolding taken_by open_taken taken_at took
   taken_by-none room z = rw (lt-ltb 5 c.phase open', z)
 
-  pub taken_by-short : (room : ℕ) → room < c.end.channel.receiver.complete.length → taken_by c room ≡ record { told = plainly ShortBuffer 7; len = 0; flags = 0; unit = c }
+  pub taken_by-short : (room : ℕ) → room < c.end.channel.receiver.complete.length → taken_by c room ≡ record { told = plainly ShortBuffer 7; len = 0; flags = 0; left = c }
   unfolding taken_by open_taken taken_at took
   taken_by-short room h = rw (lt-ltb 5 c.phase open', lt-ltb 0 c.end.channel.receiver.complete.length (omega arith), lt-ltb _ _ h)
 
@@ -180,7 +180,7 @@ module _ (c : ControlUnit) (open' : 6 ≤ c.phase) where
         told = plainly Good 0;
         len = r.complete.length;
         flags = r.complete.flags;
-        unit =
+        left =
             holding c
             (record {
               parameters = c.end.channel.parameters;

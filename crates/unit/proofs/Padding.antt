@@ -79,7 +79,7 @@ module _ (limit : ℕ) (c : ControlUnit) (id : ℕ) (buffer own content : List �
         opening-alters : is_open c ≡ false → Alters
         unfolding arrived buffered
         opening-alters before =
-            sorted-alters k content l stands (λ u. (on_opening c u).told) (λ u. (on_opening c u).unit) buffer
+            sorted-alters k content l stands (λ u. (on_opening c u).told) (λ u. (on_opening c u).left) buffer
             (rw (apart, closed, heard, before)) (rw (apart, closed, heard, before)) (opening-passes c k)
 
         end-alters : is_open c ≡ true → Alters

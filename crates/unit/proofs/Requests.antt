@@ -44,13 +44,13 @@ NoneInSending c = (c.phase ≤ 5) ⊎ (c.end.channel.sender.length ≡ 0)
 
 module _ (c next : ControlUnit) where
   -- where no message is in sending, 0 (B46)
-  pub ends-good : NoneInSending c → ends c next ≡ record { told = plainly Good 0; unit = next }
+  pub ends-good : NoneInSending c → ends c next ≡ record { told = plainly Good 0; left = next }
   unfolding ends
   ends-good (inl h) = rw (le-ltb 5 c.phase h)
   ends-good (inr e) = rw (and-off' (is_open c) (not (eqb c.end.channel.sender.length 0)) (rw e))
 
   -- and where one is, 8
-  pub ends-sending : 6 ≤ c.phase → c.end.channel.sender.length ≢ 0 → ends c next ≡ record { told = ended; unit = next }
+  pub ends-sending : 6 ≤ c.phase → c.end.channel.sender.length ≢ 0 → ends c next ≡ record { told = ended; left = next }
   unfolding ends
   ends-sending h some = rw (lt-ltb 5 c.phase h, ne_eqb c.end.channel.sender.length 0 some)
 
@@ -62,38 +62,38 @@ module _ (c : ControlUnit) (limit room : ℕ) where
     -- "it answers C0 in any state with D0 .. as set": the D0 is due, and nothing else; "ending what was there"
     pub arrived-request : c.reply ≡ 0xD0 → NoneInSending c
         → arrived limit c 0x200 (c.settings.unit ∷ 0xC0 ∷ 0x00 ∷ 0x10 ∷ low ∷ high ∷ 0x01 ∷ []) room
-        ≡ record { told = plainly Good 0; padded = false; unit = replying c 3 (low + 256 * high) }
+        ≡ record { told = plainly Good 0; padded = false; left = replying c 3 (low + 256 * high) }
     unfolding arrived request_read on_request
     arrived-request d none = rw (lt-ltb high 8 h, eq-eqb c.settings.unit c.settings.unit refl, ends-good c _ none, d)
 
     -- "D6, D7 or D8 as set (.. after the last three it is closed)": closed, the refusal due
     pub arrived-refused : c.reply ≢ 0xD0 → NoneInSending c
         → arrived limit c 0x200 (c.settings.unit ∷ 0xC0 ∷ 0x00 ∷ 0x10 ∷ low ∷ high ∷ 0x01 ∷ []) room
-        ≡ record { told = plainly Good 0; padded = false; unit = replying c 2 (low + 256 * high) }
+        ≡ record { told = plainly Good 0; padded = false; left = replying c 2 (low + 256 * high) }
     unfolding arrived request_read on_request
     arrived-refused d none = rw (lt-ltb high 8 h, eq-eqb c.settings.unit c.settings.unit refl, ends-good c _ none, ne_eqb c.reply 0xD0 d)
 
     -- "A C0 .. that ends a message in sending is answered 8, its reply due"
     pub arrived-request-ending : c.reply ≡ 0xD0 → 6 ≤ c.phase → c.end.channel.sender.length ≢ 0
         → arrived limit c 0x200 (c.settings.unit ∷ 0xC0 ∷ 0x00 ∷ 0x10 ∷ low ∷ high ∷ 0x01 ∷ []) room
-        ≡ record { told = ended; padded = false; unit = replying c 3 (low + 256 * high) }
+        ≡ record { told = ended; padded = false; left = replying c 3 (low + 256 * high) }
     unfolding arrived request_read on_request
     arrived-request-ending d o some = rw (lt-ltb high 8 h, eq-eqb c.settings.unit c.settings.unit refl, ends-sending c _ o some, d)
 
     pub arrived-refused-ending : c.reply ≢ 0xD0 → 6 ≤ c.phase → c.end.channel.sender.length ≢ 0
         → arrived limit c 0x200 (c.settings.unit ∷ 0xC0 ∷ 0x00 ∷ 0x10 ∷ low ∷ high ∷ 0x01 ∷ []) room
-        ≡ record { told = ended; padded = false; unit = replying c 2 (low + 256 * high) }
+        ≡ record { told = ended; padded = false; left = replying c 2 (low + 256 * high) }
     unfolding arrived request_read on_request
     arrived-refused-ending d o some = rw (lt-ltb high 8 h, eq-eqb c.settings.unit c.settings.unit refl, ends-sending c _ o some, ne_eqb c.reply 0xD0 d)
 
     -- "one for another unit 3", in every state, nothing changed
     pub arrived-other-unit : (unit : ℕ) → unit ≢ c.settings.unit
-        → arrived limit c 0x200 (unit ∷ 0xC0 ∷ 0x00 ∷ 0x10 ∷ low ∷ high ∷ 0x01 ∷ []) room ≡ record { told = elsewhere; padded = false; unit = c }
+        → arrived limit c 0x200 (unit ∷ 0xC0 ∷ 0x00 ∷ 0x10 ∷ low ∷ high ∷ 0x01 ∷ []) room ≡ record { told = elsewhere; padded = false; left = c }
     unfolding arrived request_read on_request
     arrived-other-unit unit other = rw (lt-ltb high 8 h, ne_eqb unit c.settings.unit other)
 
   -- "all but a well-formed C0 gives 1 there", in every state, nothing changed
-  pub arrived-no-request : (s : List ℕ) → ((q : Request) → RequestForm s q → ⊥) → Bytes s → arrived limit c 0x200 s room ≡ record { told = plainly Malformed 1; padded = false; unit = c }
+  pub arrived-no-request : (s : List ℕ) → ((q : Request) → RequestForm s q → ⊥) → Bytes s → arrived limit c 0x200 s room ≡ record { told = plainly Malformed 1; padded = false; left = c }
   unfolding arrived on_request
   arrived-no-request s none bytes = rw ((request-reads s bytes NoRequest).1 (formless none))
 
@@ -121,12 +121,12 @@ module _ (c : ControlUnit) (m : List ℕ) where
   -- the D0: with its hand-over it is out, and nothing else changes
   pub due_of-replying : c.phase ≡ 3
       → due_of c m
-      ≡ record { told = plainly Good 0; given = true; frame = reply_bytes c 0xD0; unit = record { phase = 4; reply = c.reply; settings = c.settings; end = c.end } }
+      ≡ record { told = plainly Good 0; given = true; frame = reply_bytes c 0xD0; left = record { phase = 4; reply = c.reply; settings = c.settings; end = c.end } }
   unfolding due_of
   due_of-replying e = rw e
 
   -- "all filled in like D0; after the last three it is closed": nothing is due then, and the settings stay
   pub due_of-refusing : c.phase ≡ 2
-      → due_of c m ≡ record { told = plainly Good 0; given = true; frame = reply_bytes c c.reply; unit = resting c.settings c.reply }
+      → due_of c m ≡ record { told = plainly Good 0; given = true; frame = reply_bytes c c.reply; left = resting c.settings c.reply }
   unfolding due_of
   due_of-refusing e = rw e

@@ -79,19 +79,19 @@ settable-exactly s r = (named, taken)
 
 module _ (c : ControlUnit) (s : Settings) (r : ℕ) where
   -- set: 4 if not closed (B40)
-  pub set-not-closed : 3 ≤ c.phase → set_to c s r ≡ record { told = plainly NotDue 4; unit = c }
+  pub set-not-closed : 3 ≤ c.phase → set_to c s r ≡ record { told = plainly NotDue 4; left = c }
   unfolding set_to
   set-not-closed h = rw (le-ltb c.phase 3 h)
 
   -- then 10, where one of the three fails: nothing changes
   pub set-out-of-range : c.phase < 3 → (InRange tp20 s × (s.receive ≢ 0x200) × AReply r → ⊥)
-      → set_to c s r ≡ record { told = record { answer = OutOfRange; said = record { number = 10; done = false; opcode = 0 } }; unit = c }
+      → set_to c s r ≡ record { told = record { answer = OutOfRange; said = record { number = 10; done = false; opcode = 0 } }; left = c }
   unfolding set_to
   set-out-of-range h out =
       either (settable s r) (λ e. absurd (out ((settable-exactly s r).0 e))) (λ e. rw (lt-ltb c.phase 3 h, e))
 
   -- else 0: closed, nothing due; an A8 or a reply that was due is discarded
-  pub set-leaves : c.phase < 3 → InRange tp20 s → s.receive ≢ 0x200 → AReply r → set_to c s r ≡ record { told = plainly Good 0; unit = resting s r }
+  pub set-leaves : c.phase < 3 → InRange tp20 s → s.receive ≢ 0x200 → AReply r → set_to c s r ≡ record { told = plainly Good 0; left = resting s r }
   unfolding set_to
   set-leaves h k o a = rw (lt-ltb c.phase 3 h, (settable-exactly s r).1 (k, o, a))
 
@@ -99,17 +99,17 @@ module _ (c : ControlUnit) (s : Settings) (r : ℕ) where
 
 module _ (c : ControlUnit) (closed' : c.phase < 3) where
   -- on any ID but 0x200 a frame gives 4, without a mark
-  pub arrived-closed : (limit id : ℕ) (s : List ℕ) (room : ℕ) → id ≢ 0x200 → arrived limit c id s room ≡ record { told = plainly NotDue 4; padded = false; unit = c }
+  pub arrived-closed : (limit id : ℕ) (s : List ℕ) (room : ℕ) → id ≢ 0x200 → arrived limit c id s room ≡ record { told = plainly NotDue 4; padded = false; left = c }
   unfolding arrived
   arrived-closed limit id s room other = rw (ne_eqb id 0x200 other, lt-ltb c.phase 3 closed')
 
   -- close: 4 when closed, and what is due stays so (B47)
-  pub closed-closed : closed c ≡ record { told = plainly NotDue 4; unit = c }
+  pub closed-closed : closed c ≡ record { told = plainly NotDue 4; left = c }
   unfolding closed
   closed-closed = rw (lt-ltb c.phase 3 closed')
 
 -- with nothing due there is no frame: closed, or with the D0 out
-pub due_of-closed : (c : ControlUnit) (m : List ℕ) → (c.phase ≡ 0) ⊎ (c.phase ≡ 4) → due_of c m ≡ record { told = plainly Good 0; given = false; frame = no_frame; unit = c }
+pub due_of-closed : (c : ControlUnit) (m : List ℕ) → (c.phase ≡ 0) ⊎ (c.phase ≡ 4) → due_of c m ≡ record { told = plainly Good 0; given = false; frame = no_frame; left = c }
 unfolding due_of
 due_of-closed c m (inl e) = rw e
 due_of-closed c m (inr e) = rw e
@@ -121,7 +121,7 @@ pub due_of-leaving : (c : ControlUnit) (m : List ℕ) → c.phase ≡ 1
       told = plainly Good 0;
       given = true;
       frame = record { id = c.end.transmit; payload = record { len = 1; bytes = 0xA8 ∷ 0 ∷ 0 ∷ 0 ∷ 0 ∷ 0 ∷ 0 ∷ 0 ∷ [] } };
-      unit = resting c.settings c.reply;
+      left = resting c.settings c.reply;
     }
 unfolding due_of
 due_of-leaving c m e = rw e
@@ -130,16 +130,16 @@ due_of-leaving c m e = rw e
 
 module _ (c : ControlUnit) (before : c.phase ≤ 5) where
   -- send and take: 4 till then
-  pub sent_by-before : (limit n : ℕ) → sent_by limit c n ≡ record { told = plainly NotDue 4; unit = c }
+  pub sent_by-before : (limit n : ℕ) → sent_by limit c n ≡ record { told = plainly NotDue 4; left = c }
   unfolding sent_by
   sent_by-before limit n = rw (le-ltb 5 c.phase before)
 
-  pub taken_by-before : (room : ℕ) → taken_by c room ≡ record { told = plainly NotDue 4; len = 0; flags = 0; unit = c }
+  pub taken_by-before : (room : ℕ) → taken_by c room ≡ record { told = plainly NotDue 4; len = 0; flags = 0; left = c }
   unfolding taken_by
   taken_by-before room = rw (le-ltb 5 c.phase before)
 
   -- "nothing is timed"
-  pub elapsed-before : (n : ℕ) → elapsed c n ≡ record { told = plainly Good 0; unit = c }
+  pub elapsed-before : (n : ℕ) → elapsed c n ≡ record { told = plainly Good 0; left = c }
   unfolding elapsed
   elapsed-before n = rw (le-ltb 5 c.phase before)
 
@@ -154,7 +154,7 @@ pub closed-leaves : (c : ControlUnit) → 3 ≤ c.phase
     → closed c
     ≡ record {
       told = plainly Good 0;
-      unit = record { phase = 1; reply = c.reply; settings = c.settings; end = record { transmit = c.end.transmit; receive = 0; channel = no_channel } };
+      left = record { phase = 1; reply = c.reply; settings = c.settings; end = record { transmit = c.end.transmit; receive = 0; channel = no_channel } };
     }
 unfolding closed
 closed-leaves c h = rw (le-ltb c.phase 3 h)

@@ -64,38 +64,38 @@ accepted c block t3 =
 module _ (c : ControlUnit) (limit id room : ℕ) (heard : id ≡ c.settings.receive) (other : id ≢ 0x200) (b t1 t2 t3 t4 : ℕ) where
   -- what an A0 comes to, once the D0 is out: before the A1's hand-over, and on an open connection
   set-up : 4 ≤ c.phase → arrived limit c id (0xA0 ∷ b ∷ t1 ∷ t2 ∷ t3 ∷ t4 ∷ []) room
-      ≡ (let r = on_setup c (record { block = b; t1 = t1; t3 = t3 }) in record { told = r.told; padded = false; unit = r.unit })
+      ≡ (let r = on_setup c (record { block = b; t1 = t1; t3 = t3 }) in record { told = r.told; padded = false; left = r.left })
   unfolding arrived kind_of on_opening on_open
   set-up h =
-      by_le (λ (_ : ℕ). arrived limit c id (0xA0 ∷ b ∷ t1 ∷ t2 ∷ t3 ∷ t4 ∷ []) room ≡ (let r = on_setup c (record { block = b; t1 = t1; t3 = t3 }) in record { told = r.told; padded = false; unit = r.unit })) c.phase 5 {x = 0} {y = 0}
+      by_le (λ (_ : ℕ). arrived limit c id (0xA0 ∷ b ∷ t1 ∷ t2 ∷ t3 ∷ t4 ∷ []) room ≡ (let r = on_setup c (record { block = b; t1 = t1; t3 = t3 }) in record { told = r.told; padded = false; left = r.left })) c.phase 5 {x = 0} {y = 0}
       (λ k. rw (ne_eqb id 0x200 other, le-ltb c.phase 3 (omega arith), eq-eqb id c.settings.receive heard, le-ltb 5 c.phase k))
       (λ k. rw (ne_eqb id 0x200 other, le-ltb c.phase 3 (omega arith), eq-eqb id c.settings.receive heard, lt-ltb 5 c.phase k))
 
   -- "From the D0's hand-over it answers A0": the A1 is due; again before the A1's hand-over too, and the newer fields hold (B45); "An A0 on an open connection begins it anew"
   pub arrived-setup : 4 ≤ c.phase → NoneInSending c → 1 ≤ b → b ≤ 15 → c.settings.t1 < 256 → t3 < 256
-      → arrived limit c id (0xA0 ∷ b ∷ t1 ∷ t2 ∷ t3 ∷ t4 ∷ []) room ≡ record { told = plainly Good 0; padded = false; unit = accepted c b t3 }
+      → arrived limit c id (0xA0 ∷ b ∷ t1 ∷ t2 ∷ t3 ∷ t4 ∷ []) room ≡ record { told = plainly Good 0; padded = false; left = accepted c b t3 }
   unfolding on_setup bad_block
   arrived-setup h none low high s t =
       set-up h ∙ rw (ne_eqb c.phase 3 (λ z. omega arith), ne_eqb b 0 (λ z. omega arith), le-ltb 15 b high, ends-good c _ none, tenths-are c.settings.t1 s, tenths-are t3 t)
 
   -- "A C0 or A0 that ends a message in sending is answered 8, its reply due"
   pub arrived-setup-ending : 6 ≤ c.phase → c.end.channel.sender.length ≢ 0 → 1 ≤ b → b ≤ 15 → c.settings.t1 < 256 → t3 < 256
-      → arrived limit c id (0xA0 ∷ b ∷ t1 ∷ t2 ∷ t3 ∷ t4 ∷ []) room ≡ record { told = ended; padded = false; unit = accepted c b t3 }
+      → arrived limit c id (0xA0 ∷ b ∷ t1 ∷ t2 ∷ t3 ∷ t4 ∷ []) room ≡ record { told = ended; padded = false; left = accepted c b t3 }
   unfolding on_setup bad_block
   arrived-setup-ending h some low high s t =
       set-up (omega arith) ∙ rw (ne_eqb c.phase 3 (λ z. omega arith), ne_eqb b 0 (λ z. omega arith), le-ltb 15 b high, ends-sending c _ h some, tenths-are c.settings.t1 s, tenths-are t3 t)
 
   -- "row 2 covers it too": block size 0 or over 15 once the D0 is out, or open; nothing changes
-  pub arrived-setup-none : 4 ≤ c.phase → b ≡ 0 → arrived limit c id (0xA0 ∷ b ∷ t1 ∷ t2 ∷ t3 ∷ t4 ∷ []) room ≡ record { told = plainly BlockSize 2; padded = false; unit = c }
+  pub arrived-setup-none : 4 ≤ c.phase → b ≡ 0 → arrived limit c id (0xA0 ∷ b ∷ t1 ∷ t2 ∷ t3 ∷ t4 ∷ []) room ≡ record { told = plainly BlockSize 2; padded = false; left = c }
   unfolding on_setup bad_block
   arrived-setup-none h z = set-up h ∙ rw (ne_eqb c.phase 3 (λ z. omega arith), z)
 
-  pub arrived-setup-over : 4 ≤ c.phase → 15 < b → arrived limit c id (0xA0 ∷ b ∷ t1 ∷ t2 ∷ t3 ∷ t4 ∷ []) room ≡ record { told = plainly BlockSize 2; padded = false; unit = c }
+  pub arrived-setup-over : 4 ≤ c.phase → 15 < b → arrived limit c id (0xA0 ∷ b ∷ t1 ∷ t2 ∷ t3 ∷ t4 ∷ []) room ≡ record { told = plainly BlockSize 2; padded = false; left = c }
   unfolding on_setup bad_block
   arrived-setup-over h o = set-up h ∙ rw (ne_eqb c.phase 3 (λ z. omega arith), ne_eqb b 0 (λ z. omega arith), lt-ltb 15 b o)
 
   -- before the D0's hand-over an A0 gives 4, with a bad block size too (B45)
-  pub arrived-setup-early : c.phase ≡ 3 → arrived limit c id (0xA0 ∷ b ∷ t1 ∷ t2 ∷ t3 ∷ t4 ∷ []) room ≡ record { told = plainly NotDue 4; padded = false; unit = c }
+  pub arrived-setup-early : c.phase ≡ 3 → arrived limit c id (0xA0 ∷ b ∷ t1 ∷ t2 ∷ t3 ∷ t4 ∷ []) room ≡ record { told = plainly NotDue 4; padded = false; left = c }
   unfolding arrived kind_of on_opening on_setup
   arrived-setup-early e = rw (ne_eqb id 0x200 other, e, eq-eqb id c.settings.receive heard)
 
@@ -103,13 +103,13 @@ module _ (c : ControlUnit) (limit id room : ℕ) (heard : id ≡ c.settings.rece
 
 module _ (c : ControlUnit) (limit id room : ℕ) (other : id ≢ 0x200) (begun : 3 ≤ c.phase) where
   -- 3: on every ID but 0x200 and its receive ID, open or not
-  pub arrived-other-id : (s : List ℕ) → id ≢ c.settings.receive → arrived limit c id s room ≡ record { told = elsewhere; padded = false; unit = c }
+  pub arrived-other-id : (s : List ℕ) → id ≢ c.settings.receive → arrived limit c id s room ≡ record { told = elsewhere; padded = false; left = c }
   unfolding arrived
   arrived-other-id s d = rw (ne_eqb id 0x200 other, le-ltb c.phase 3 begun, ne_eqb id c.settings.receive d)
 
   module _ (heard : id ≡ c.settings.receive) (before : c.phase ≤ 5) where
     -- what is sorted is answered by its kind, with its mark
-    sorted-so : (s : List ℕ) → arrived limit c id s room ≡ (let r = on_opening c (sorted s).kind in record { told = r.told; padded = (sorted s).padded; unit = r.unit })
+    sorted-so : (s : List ℕ) → arrived limit c id s room ≡ (let r = on_opening c (sorted s).kind in record { told = r.told; padded = (sorted s).padded; left = r.left })
     unfolding arrived
     sorted-so s = rw (ne_eqb id 0x200 other, le-ltb c.phase 3 begun, eq-eqb id c.settings.receive heard, le-ltb 5 c.phase before)
 
@@ -118,39 +118,39 @@ module _ (c : ControlUnit) (limit id room : ℕ) (other : id ≢ 0x200) (begun :
         ≡ record {
           told = plainly Disconnected 0;
           padded = false;
-          unit = record { phase = 1; reply = c.reply; settings = c.settings; end = record { transmit = c.end.transmit; receive = 0; channel = no_channel } };
+          left = record { phase = 1; reply = c.reply; settings = c.settings; end = record { transmit = c.end.transmit; receive = 0; channel = no_channel } };
         }
     unfolding kind_of on_opening
     arrived-before-disconnect = sorted-so (0xA8 ∷ [])
 
     -- other kinds give 4: a test, and padded, with its mark (B42)
-    pub arrived-before-test : arrived limit c id (0xA3 ∷ []) room ≡ record { told = plainly NotDue 4; padded = false; unit = c }
+    pub arrived-before-test : arrived limit c id (0xA3 ∷ []) room ≡ record { told = plainly NotDue 4; padded = false; left = c }
     unfolding kind_of on_opening
     arrived-before-test = sorted-so (0xA3 ∷ [])
 
-    pub arrived-before-padded : (p q r s t u v : ℕ) → arrived limit c id (0xA3 ∷ p ∷ q ∷ r ∷ s ∷ t ∷ u ∷ v ∷ []) room ≡ record { told = plainly NotDue 4; padded = true; unit = c }
+    pub arrived-before-padded : (p q r s t u v : ℕ) → arrived limit c id (0xA3 ∷ p ∷ q ∷ r ∷ s ∷ t ∷ u ∷ v ∷ []) room ≡ record { told = plainly NotDue 4; padded = true; left = c }
     unfolding kind_of on_opening
     arrived-before-padded p q r s t u v = sorted-so (0xA3 ∷ p ∷ q ∷ r ∷ s ∷ t ∷ u ∷ v ∷ [])
 
     -- a break, an A1, a ready Ack, and data of two bytes with AR and EOM, both of number 0
-    pub arrived-before-break : arrived limit c id (0xA4 ∷ []) room ≡ record { told = plainly NotDue 4; padded = false; unit = c }
+    pub arrived-before-break : arrived limit c id (0xA4 ∷ []) room ≡ record { told = plainly NotDue 4; padded = false; left = c }
     unfolding kind_of on_opening
     arrived-before-break = sorted-so (0xA4 ∷ [])
 
-    pub arrived-before-accept : (b t1 t2 t3 t4 : ℕ) → arrived limit c id (0xA1 ∷ b ∷ t1 ∷ t2 ∷ t3 ∷ t4 ∷ []) room ≡ record { told = plainly NotDue 4; padded = false; unit = c }
+    pub arrived-before-accept : (b t1 t2 t3 t4 : ℕ) → arrived limit c id (0xA1 ∷ b ∷ t1 ∷ t2 ∷ t3 ∷ t4 ∷ []) room ≡ record { told = plainly NotDue 4; padded = false; left = c }
     unfolding kind_of on_opening
     arrived-before-accept b t1 t2 t3 t4 = sorted-so (0xA1 ∷ b ∷ t1 ∷ t2 ∷ t3 ∷ t4 ∷ [])
 
-    pub arrived-before-ack : arrived limit c id (0xB0 ∷ []) room ≡ record { told = plainly NotDue 4; padded = false; unit = c }
+    pub arrived-before-ack : arrived limit c id (0xB0 ∷ []) room ≡ record { told = plainly NotDue 4; padded = false; left = c }
     unfolding kind_of on_opening
     arrived-before-ack = sorted-so (0xB0 ∷ [])
 
-    pub arrived-before-data : (x : ℕ) → arrived limit c id (0x10 ∷ x ∷ []) room ≡ record { told = plainly NotDue 4; padded = false; unit = c }
+    pub arrived-before-data : (x : ℕ) → arrived limit c id (0x10 ∷ x ∷ []) room ≡ record { told = plainly NotDue 4; padded = false; left = c }
     unfolding kind_of on_opening
     arrived-before-data x = sorted-so (0x10 ∷ x ∷ [])
 
     -- what is badly formed gives 1: an A2, an A0 of a byte
-    pub arrived-before-malformed : (arrived limit c id (0xA2 ∷ []) room ≡ record { told = plainly Malformed 1; padded = false; unit = c }) × (arrived limit c id (0xA0 ∷ []) room ≡ record { told = plainly Malformed 1; padded = false; unit = c })
+    pub arrived-before-malformed : (arrived limit c id (0xA2 ∷ []) room ≡ record { told = plainly Malformed 1; padded = false; left = c }) × (arrived limit c id (0xA0 ∷ []) room ≡ record { told = plainly Malformed 1; padded = false; left = c })
     unfolding kind_of on_opening
     arrived-before-malformed = (sorted-so (0xA2 ∷ []), sorted-so (0xA0 ∷ []))
 
@@ -167,7 +167,7 @@ pub due_of-accepting : (c : ControlUnit) (m : List ℕ) → c.phase ≡ 5
             id = c.end.transmit;
             payload = record { len = 6; bytes = 0xA1 ∷ c.settings.block ∷ c.settings.t1 ∷ 0xFF ∷ c.settings.t3 ∷ 0xFF ∷ 0 ∷ 0 ∷ [] };
           };
-      unit = record { phase = 6; reply = c.reply; settings = c.settings; end = c.end };
+      left = record { phase = 6; reply = c.reply; settings = c.settings; end = c.end };
     }
 unfolding due_of
 due_of-accepting c m e = rw e

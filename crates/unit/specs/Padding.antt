@@ -7,7 +7,7 @@ use Rattle.unit.specs.Calls.{arrived, buffered}
 -- what a frame with the bytes s comes to at a unit, a buffer being lent
 abbrev pub comes_to : (limit : ℕ) → ControlUnit → (id : ℕ) → (buffer s : List ℕ) → Outcome ControlUnit
 comes_to limit c id b s =
-    (let r = arrived limit c id s (length b) in record { told = r.told; padded = r.padded; left = r.unit; buffer = buffered limit c id s b })
+    (let r = arrived limit c id s (length b) in record { told = r.told; padded = r.padded; left = r.left; buffer = buffered limit c id s b })
 
 -- for every unit, ID and buffer; none is marked on 0x200 (house), and phases 0, 1 and 2 are closed
 abbrev pub PaddingAltersNothing : Type 0

@@ -10,9 +10,10 @@ ghost use Rattle.std.specs.Prelude.{◌≡◌, length};
 ghost use Rattle.telegram.specs.Cutting.{longest};
 ghost use Rattle.open_end.specs.OpenEnd.{buffered_at};
 ghost use Rattle.unit.specs.Record.{is_closed, is_replying, is_open, in_sending, unit_defaults, is_reply, settable, closed_with, closed_unit, closed_of, leaving_of, asked_by, accepting, at_phase};
-ghost use Rattle.unit.specs.Calls.{gives, not_for_us, ends, marked, hand_over, hand_nothing, shows, set_to, on_request, on_setup, on_opening, settled, at_end, on_open, arrived, buffered, open_elapsed, elapsed, reply_frame, accept_frame, open_due, due_of, open_sent, sent_by, open_taken, taken_by, takes, looked, closed};
+ghost use Rattle.unit.specs.Calls.{not_for_us, ends, set_to, on_request, on_setup, on_opening, settled, at_end, on_open, arrived, buffered, open_elapsed, elapsed, reply_frame, accept_frame, open_due, due_of, open_sent, sent_by, open_taken, taken_by, takes, closed};
+ghost use Rattle.open_end.specs.Answers.{looked, gives, marked, hand_over, hand_nothing, shows};
 
-use open_end::answers::{Answer, Told, tell};
+use open_end::answers::{Answer, Answered, Arrived, Due, Record, TakeStep, Taken, tell};
 use open_end::{Course, Frame, OpenEnd, course_of, no_frame, shown};
 use opening::{
     NO_RESOURCES, NOT_FOR_NOW, NOT_SUPPORTED, POSITIVE, REQUEST_ID, Request, read_request,
@@ -52,59 +53,7 @@ pub struct ControlUnit {
     pub end: OpenEnd,
 }
 
-// What a call tells, and the unit that it leaves.
-#[derive(Clone, Copy)]
-pub struct Answered {
-    pub told: Told,
-    pub unit: ControlUnit,
-}
-
-// What a frame that arrives tells, whether its telegram is padded, and the unit that it leaves. The mark is false with the
-// numbers 1 and 3, with a closed unit's 4 and on 0x200.
-#[derive(Clone, Copy)]
-pub struct Arrived {
-    pub told: Told,
-    pub padded: bool,
-    pub unit: ControlUnit,
-}
-
-// A frame to hand over, if one is given; else ID 0 and no bytes.
-#[derive(Clone, Copy)]
-pub struct Due {
-    pub told: Told,
-    pub given: bool,
-    pub frame: Frame,
-    pub unit: ControlUnit,
-}
-
-// What taking a message comes to: where it is shown, len is its declared length and flags are its flags, and else both are 0.
-#[derive(Clone, Copy)]
-pub struct TakeStep {
-    pub told: Told,
-    pub len: usize,
-    pub flags: u16,
-    pub unit: ControlUnit,
-}
-
-// A message taken: the first part of the lent buffer, and nothing of it where none is shown; its flags, and 0 there.
-#[derive(Clone, Copy)]
-pub struct Taken<'a> {
-    pub told: Told,
-    pub flags: u16,
-    pub unit: ControlUnit,
-    pub message: &'a [u8],
-}
-
-impl Answered {
-    // The answer to a frame that arrives, with its telegram's mark.
-    fn marked(self, padded: bool) -> Arrived
-        ensures { result ≡ marked padded self }
-    {
-        let told = self.told;
-        let unit = self.unit;
-        Arrived { told, padded, unit }
-    }
-}
+impl Record for ControlUnit {}
 
 // An opcode that a C0 can be answered with.
 fn is_reply(opcode: u8) -> bool
@@ -201,77 +150,31 @@ impl ControlUnit {
         self
     }
 
-    // An answer that an open channel gives too, with this unit left.
-    fn gives(self, answer: channel::Answer) -> Answered
-        ensures { result ≡ gives answer self }
-    {
-        Answered {
-            told: tell(Answer::Channel(answer)),
-            unit: self,
-        }
-    }
-
     // A frame that is for none here.
-    fn not_for_us(self) -> Answered
+    fn not_for_us(self) -> Answered<ControlUnit>
         ensures { result ≡ not_for_us self }
     {
         Answered {
             told: tell(Answer::OtherId),
-            unit: self,
+            left: self,
         }
     }
 
     // A C0 or an A0 ends what was there: a message in sending is told.
-    fn ends(self, next: ControlUnit) -> Answered
+    fn ends(self, next: ControlUnit) -> Answered<ControlUnit>
         ensures { result ≡ ends self next }
     {
         if self.in_sending() {
             return Answered {
                 told: tell(Answer::Ended),
-                unit: next,
+                left: next,
             };
         }
         next.gives(channel::Answer::Good)
     }
 
-    // A frame is handed over, with this unit left.
-    fn hand_over(self, frame: Frame) -> Due
-        ensures { result ≡ hand_over frame self }
-    {
-        Due {
-            told: tell(Answer::Channel(channel::Answer::Good)),
-            given: true,
-            frame,
-            unit: self,
-        }
-    }
-
-    // No frame is handed over, with this unit left.
-    fn hand_nothing(self) -> Due
-        ensures { result ≡ hand_nothing self }
-    {
-        Due {
-            told: tell(Answer::Channel(channel::Answer::Good)),
-            given: false,
-            frame: no_frame(),
-            unit: self,
-        }
-    }
-
-    // What a take comes to, with this unit left.
-    fn shows(self, answer: channel::Answer, message: Message) -> TakeStep
-        ensures { result ≡ shows answer message self }
-    {
-        TakeStep {
-            told: tell(Answer::Channel(answer)),
-            len: message.length as usize,
-            flags: message.flags,
-            unit: self,
-        }
-    }
-
     // Sets a closed unit; a frame that was due is discarded.
-    pub fn set(self, settings: Settings, reply: u8) -> Answered
+    pub fn set(self, settings: Settings, reply: u8) -> Answered<ControlUnit>
         ensures { result ≡ set_to self settings reply }
     {
         if !self.is_closed() {
@@ -280,7 +183,7 @@ impl ControlUnit {
         if !can_be_set(settings, reply) {
             return Answered {
                 told: tell(Answer::OutOfRange),
-                unit: self,
+                left: self,
             };
         }
         ControlUnit::closed_with(settings, reply).gives(channel::Answer::Good)
@@ -288,7 +191,7 @@ impl ControlUnit {
 
     // A frame on 0x200.
     #[tactic(auto, using(laws::proofs::Branches::branches), unfolding(crate::specs::Calls::on_request))]
-    fn on_request(self, request: Option<Request>) -> Answered
+    fn on_request(self, request: Option<Request>) -> Answered<ControlUnit>
         ensures { result ≡ on_request self request }
     {
         let Some(Request { unit, receive }) = request else {
@@ -301,7 +204,7 @@ impl ControlUnit {
     }
 
     // An A0.
-    fn on_setup(self, fields: Fields) -> Answered
+    fn on_setup(self, fields: Fields) -> Answered<ControlUnit>
         ensures { result ≡ on_setup self fields }
     {
         let block = fields.block;
@@ -315,7 +218,7 @@ impl ControlUnit {
     }
 
     // A telegram before the A1's hand-over.
-    fn on_opening(self, telegram: Telegram) -> Answered
+    fn on_opening(self, telegram: Telegram) -> Answered<ControlUnit>
         ensures { result ≡ on_opening self telegram }
     {
         match telegram {
@@ -337,8 +240,8 @@ impl ControlUnit {
         }
     }
 
-    // A CAN frame arrives, and a buffer is lent.
-    pub fn arrive(self, id: u16, bytes: &[u8], buffer: &mut [u8]) -> Arrived
+    // A CAN frame arrives, and a buffer is lent. The mark is false with the numbers 1 and 3, with a closed unit's 4 and on 0x200.
+    pub fn arrive(self, id: u16, bytes: &[u8], buffer: &mut [u8]) -> Arrived<ControlUnit>
         ensures value { result ≡ arrived longest self id bytes.now (length buffer.old) }
         ensures buffer_after { buffer.new ≡ buffered longest self id bytes.now buffer.old }
     {
@@ -361,7 +264,7 @@ impl ControlUnit {
     }
 
     // A frame on an open connection, sorted: an A0 begins it anew, and every other the end answers.
-    fn on_open(self, telegram: Telegram, bytes: &[u8], buffer: &mut [u8]) -> Answered
+    fn on_open(self, telegram: Telegram, bytes: &[u8], buffer: &mut [u8]) -> Answered<ControlUnit>
         ensures value { result ≡ on_open longest self telegram bytes.now (length buffer.old) }
         ensures buffer_after { buffer.new ≡ buffered_at longest self.end telegram bytes.now buffer.old }
     {
@@ -372,7 +275,7 @@ impl ControlUnit {
     }
 
     // The end answers.
-    fn at_end(self, telegram: Telegram, bytes: &[u8], buffer: &mut [u8]) -> Answered
+    fn at_end(self, telegram: Telegram, bytes: &[u8], buffer: &mut [u8]) -> Answered<ControlUnit>
         ensures value { result ≡ at_end longest self telegram bytes.now (length buffer.old) }
         ensures buffer_after { buffer.new ≡ buffered_at longest self.end telegram bytes.now buffer.old }
     {
@@ -398,7 +301,7 @@ impl ControlUnit {
     }
 
     // Time passes.
-    pub fn elapse(self, tenths: u64) -> Answered
+    pub fn elapse(self, tenths: u64) -> Answered<ControlUnit>
         ensures { result ≡ elapsed self tenths }
     {
         if !self.is_open() {
@@ -408,7 +311,7 @@ impl ControlUnit {
     }
 
     // Time passes on an open connection.
-    fn open_elapses(self, tenths: u64) -> Answered
+    fn open_elapses(self, tenths: u64) -> Answered<ControlUnit>
         ensures { result ≡ open_elapsed self tenths }
     {
         let end = self.end;
@@ -419,7 +322,7 @@ impl ControlUnit {
     }
 
     // What is due: at most one frame, the message in sending being lent.
-    pub fn due(self, message: &[u8]) -> Due
+    pub fn due(self, message: &[u8]) -> Due<ControlUnit>
         ensures { result ≡ due_of self message.now }
     {
         let phase = self.phase;
@@ -465,7 +368,7 @@ impl ControlUnit {
     }
 
     // What an open end has due.
-    fn open_due(mut self, message: &[u8]) -> Due
+    fn open_due(mut self, message: &[u8]) -> Due<ControlUnit>
         ensures { result ≡ open_due self message.now }
     {
         let end = self.end;
@@ -478,12 +381,12 @@ impl ControlUnit {
             told: tell(Answer::Channel(answer)),
             given: d.given,
             frame,
-            unit: self,
+            left: self,
         }
     }
 
     // A message to send.
-    pub fn send(self, message: &[u8]) -> Answered
+    pub fn send(self, message: &[u8]) -> Answered<ControlUnit>
         ensures { result ≡ sent_by longest self (length message.now) }
     {
         if !self.is_open() {
@@ -493,7 +396,7 @@ impl ControlUnit {
     }
 
     // A message of len bytes is offered on an open connection.
-    fn open_sends(mut self, len: usize) -> Answered
+    fn open_sends(mut self, len: usize) -> Answered<ControlUnit>
         ensures { result ≡ open_sent longest self len }
     {
         let end = self.end;
@@ -505,7 +408,7 @@ impl ControlUnit {
     }
 
     // What taking a message comes to, in a lent buffer of room bytes.
-    pub fn take_step(self, room: usize) -> TakeStep
+    pub fn take_step(self, room: usize) -> TakeStep<ControlUnit>
         ensures { result ≡ taken_by self room }
     {
         if !self.is_open() {
@@ -515,7 +418,7 @@ impl ControlUnit {
     }
 
     // What taking a message comes to on an open connection.
-    fn open_takes(mut self, room: usize) -> TakeStep
+    fn open_takes(mut self, room: usize) -> TakeStep<ControlUnit>
         ensures { result ≡ open_taken self room }
     {
         let end = self.end;
@@ -528,7 +431,7 @@ impl ControlUnit {
     }
 
     // Takes the complete message: it is shown as the first part of the lent buffer.
-    pub fn take<'a>(self, buffer: &'a [u8]) -> Taken<'a>
+    pub fn take<'a>(self, buffer: &'a [u8]) -> Taken<'a, ControlUnit>
         ensures { looked result ≡ takes self buffer.entry }
     {
         let step = self.take_step(buffer.len());
@@ -536,13 +439,13 @@ impl ControlUnit {
         Taken {
             told: step.told,
             flags: step.flags,
-            unit: step.unit,
+            left: step.left,
             message,
         }
     }
 
     // Closes: one A8 is due.
-    pub fn close(self) -> Answered
+    pub fn close(self) -> Answered<ControlUnit>
         ensures { result ≡ closed self }
     {
         if self.is_closed() {

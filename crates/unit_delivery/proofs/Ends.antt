@@ -14,7 +14,8 @@ use Rattle.telegram.specs.declared.kinds.Telegram.TheVariants.{Data, Ack, Test, 
 use Rattle.open_end.specs.OpenEnd.{buffered_at}
 use Rattle.unit.specs.declared.ControlUnit.{ControlUnit}
 use Rattle.unit.specs.Record.{is_closed, is_open}
-use Rattle.unit.specs.Calls.{open_sent, sent_by, open_taken, taken_by, open_elapsed, elapsed, open_due, due_of, marked, at_end, on_open, arrived, buffered}
+use Rattle.unit.specs.Calls.{open_sent, sent_by, open_taken, taken_by, open_elapsed, elapsed, open_due, due_of, at_end, on_open, arrived, buffered}
+use Rattle.open_end.specs.Answers.{marked}
 use Rattle.unit.proofs.Open.{NotSetup, at-the-end}
 use Rattle.delivery.specs.Laws.{Carried}
 

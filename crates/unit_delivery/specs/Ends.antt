@@ -4,8 +4,8 @@ use Rattle.telegram.specs.Outgoing.{bytes_of}
 use Rattle.opening.specs.Opening.{request_id}
 use Rattle.open_end.specs.declared.answers.Said.{Said}
 use Rattle.unit.specs.declared.ControlUnit.{ControlUnit}
-use Rattle.unit.specs.declared.Due.{Due}
-use Rattle.unit.specs.declared.TakeStep.{TakeStep}
+use Rattle.open_end.specs.declared.answers.Due.{Due}
+use Rattle.open_end.specs.declared.answers.TakeStep.{TakeStep}
 use Rattle.unit.specs.Record.{is_open}
 use Rattle.unit.specs.Calls.{sent_by, taken_by, elapsed, due_of, arrived, buffered}
 use Rattle.delivery.specs.End.{Told, Taken, Given, End}
@@ -18,23 +18,23 @@ abbrev pub tells : Said → ControlUnit → Told ControlUnit
 tells s c = record { number = s.number; done = s.done; state = c }
 
 -- the same of a take
-abbrev pub shows : TakeStep → Taken ControlUnit
-shows t = record { number = t.told.said.number; message = record { length = t.len; flags = t.flags }; state = t.unit }
+abbrev pub shows : TakeStep ControlUnit → Taken ControlUnit
+shows t = record { number = t.told.said.number; message = record { length = t.len; flags = t.flags }; state = t.left }
 
 -- the same of what is due: the frame's ID and bytes
-abbrev pub hands : Due → Given ControlUnit
-hands d = record { given = d.given; id = d.frame.id; bytes = bytes_of d.frame.payload; state = d.unit }
+abbrev pub hands : Due ControlUnit → Given ControlUnit
+hands d = record { given = d.given; id = d.frame.id; bytes = bytes_of d.frame.payload; state = d.left }
 
 -- the unit's calls. Open means here: open, with a receive ID other than 0x200, as `set` sees to
 abbrev pub unit_end : (limit : ℕ) → End
 unit_end limit =
     record {
       State = ControlUnit;
-      send = λ c n. (let r = sent_by limit c n in tells r.told.said r.unit);
+      send = λ c n. (let r = sent_by limit c n in tells r.told.said r.left);
       take = λ c room. shows (taken_by c room);
-      time = λ c n. (let r = elapsed c n in tells r.told.said r.unit);
+      time = λ c n. (let r = elapsed c n in tells r.told.said r.left);
       due = λ c m. hands (due_of c m);
-      arrive = λ c id bytes room. (let r = arrived limit c id bytes room in tells r.told.said r.unit);
+      arrive = λ c id bytes room. (let r = arrived limit c id bytes room in tells r.told.said r.left);
       buffered = buffered limit;
       open' = λ c. is_open c && not (eqb c.settings.receive request_id);
       channel = λ c. c.end.channel;

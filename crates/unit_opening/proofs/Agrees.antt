@@ -135,7 +135,7 @@ module _ (limit : ℕ) (s : Settings) (u : ControlUnit) (ready : Ready s u) wher
 
   -- what it hands over goes behind the A1
   acting-hands : {v : ControlUnit} {behind : List Flying} → Acting s u limit v behind → (m : List ℕ) (t : Try) → (let d = unit_due v m in
-      Acting s u limit d.unit (if d.given then behind ++ (record { id = d.frame.id; bytes = bytes_of d.frame.payload; try = t } ∷ []) else behind))
+      Acting s u limit d.left (if d.given then behind ++ (record { id = d.frame.id; bytes = bytes_of d.frame.payload; try = t } ∷ []) else behind))
   acting-hands {v} {behind} f m t =
       let r = (unit_lawful limit).hands f.tied m in
       record {

@@ -18,7 +18,8 @@ use Rattle.channel.specs.declared.Answer.TheVariants.{Good}
 use Rattle.open_end.specs.OpenEnd.{unopened}
 use Rattle.unit.specs.declared.ControlUnit.{ControlUnit}
 use Rattle.unit.specs.Record.{phase_closed, phase_refusing, phase_replying, phase_replied, phase_open, closed_of, asked_by, accepting, at_phase}
-use Rattle.unit.specs.Calls.{ends, gives, marked, hand_over, hand_nothing, on_request, on_setup, on_opening, arrived, due_of}
+use Rattle.unit.specs.Calls.{ends, on_request, on_setup, on_opening, arrived, due_of}
+use Rattle.open_end.specs.Answers.{gives, marked, hand_over, hand_nothing}
 
 module _ (u : ControlUnit) (asker : ℕ) where
   -- asked by an end that receives on this ID, at one of the phases before the A0

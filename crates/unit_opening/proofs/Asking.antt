@@ -14,11 +14,11 @@ use Rattle.settings.specs.Settings.{allowed}
 use Rattle.settings.specs.declared.Settings.{Settings}
 use Rattle.channel.specs.declared.Answer.TheVariants.{Good, NotDue}
 use Rattle.open_end.specs.declared.answers.Answer.TheVariants.{Refused}
-use Rattle.open_end.specs.Answers.{told}
+use Rattle.open_end.specs.Answers.{told, gives, marked, shows, hand_nothing}
 use Rattle.connection.specs.declared.Connection.{Connection}
-use Rattle.connection.specs.declared.Answered.{Answered}
+use Rattle.open_end.specs.declared.answers.Answered.{Answered}
 use Rattle.connection.specs.Record.{is_closed, is_open, closed_record, requesting, agreeing, listens_on, hears}
-use Rattle.connection.specs.Calls.{gives, marked, shows, hand_nothing, opening_as, opening, on_reply, arrived, attempt_elapsed, elapsed, request_due, due_of, sent_by, taken_by}
+use Rattle.connection.specs.Calls.{opening_as, opening, on_reply, arrived, attempt_elapsed, elapsed, request_due, due_of, sent_by, taken_by}
 use Rattle.connection_delivery.proofs.Opened.{awaiting}
 
 -- an open answered 0: the settings are allowed, and the C0 is due
@@ -28,7 +28,7 @@ opening-good c s =
     by-not Opens (is_closed c) (λ n e. absurd (omega (arith, e)))
     (λ n. by-not Opens (allowed s) (λ a e. absurd (omega (arith, e))) (λ a e. (a, refl)))
   where
-    Opens : Answered → Type 0
+    Opens : Answered Connection → Type 0
     Opens r = r.told.said.number ≡ 0 → (allowed s ≡ true) × (r ≡ gives Good (requesting s))
 
 module _ (c : Connection) (shut : is_open c ≡ false) where
@@ -65,6 +65,6 @@ awaiting-elapsed (for-a1 s transmit) left n h = rw (ne_eqb left 0 (omega (arith,
 -- a refusal arrives while the D0 is awaited
 pub refusal-arrives : (limit : ℕ) (s : Settings) (left opcode receive transmit room : ℕ) → refusal opcode ≡ true
     → arrived limit (awaiting (requesting s) left) (request_id + s.unit) (bytes_of (reply_of opcode receive transmit)) room
-    ≡ marked false (record { told = told (Refused opcode); connection = closed_record })
+    ≡ marked false (record { told = told (Refused opcode); left = closed_record })
 unfolding hears listens_on arrived on_reply
 refusal-arrives limit s left opcode receive transmit room r = rw (eq-eqb (request_id + s.unit) _ refl, tp20-refused opcode receive transmit s.receive r)

@@ -57,7 +57,7 @@ module _ (s : Settings) (u : ControlUnit) where
     calm : (k : ℕ) → Calm (calm_at k) []
 
 module _ (limit : ℕ) (s : Settings) (u : ControlUnit) where
-  calm-sends : {v : ControlUnit} {behind : List Flying} → Calm s u v behind → (m : List ℕ) → Silent limit v (send m) → Calm s u (sent_by limit v (length m)).unit behind
+  calm-sends : {v : ControlUnit} {behind : List Flying} → Calm s u v behind → (m : List ℕ) → Silent limit v (send m) → Calm s u (sent_by limit v (length m)).left behind
   unfolding sent_by open_sent sent_at sent offered
   calm-sends (calm k) m =
       by Keeps (eqb (length m) 0) (λ e p. calm k) (λ e. by Keeps (ltb limit (length m)) (λ e p. calm k) (λ e p. absurd (p refl)))
@@ -67,16 +67,16 @@ module _ (limit : ℕ) (s : Settings) (u : ControlUnit) where
           ((said (offer_answer o.note)).number ≢ 0)
           → Calm s u (with_open_end (calm_at s u k) (with_channel (calm_at s u k).end (with_sender (calm_at s u k).end.channel o.sender))) []
 
-  calm-takes : {v : ControlUnit} {behind : List Flying} → Calm s u v behind → (room : ℕ) → Calm s u (taken_by v room).unit behind
+  calm-takes : {v : ControlUnit} {behind : List Flying} → Calm s u v behind → (room : ℕ) → Calm s u (taken_by v room).left behind
   unfolding taken_by open_taken taken_at took
   calm-takes (calm k) room = calm k
 
-  calm-times : {v : ControlUnit} {behind : List Flying} → Calm s u v behind → (n : ℕ) → Calm s u (elapsed v n).unit behind
+  calm-times : {v : ControlUnit} {behind : List Flying} → Calm s u v behind → (n : ℕ) → Calm s u (elapsed v n).left behind
   unfolding elapsed open_elapsed elapsed_at channel_elapsed passed wait_ends course_of settled
   calm-times (calm k) n = rw (zero-sub n) (calm (k - n))
 
   calm-hands : {v : ControlUnit} {behind : List Flying} → Calm s u v behind → (m : List ℕ) → Silent limit v due → (t : Try) → (let d = due_of v m in
-      Calm s u d.unit (if d.given then behind ++ (record { id = d.frame.id; bytes = bytes_of d.frame.payload; try = t } ∷ []) else behind))
+      Calm s u d.left (if d.given then behind ++ (record { id = d.frame.id; bytes = bytes_of d.frame.payload; try = t } ∷ []) else behind))
   unfolding due_of open_due due_at frame_on channel_due hand_data handed frame_due
   calm-hands (calm k) m permit t = rw (permit refl) (calm k)
 

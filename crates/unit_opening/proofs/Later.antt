@@ -83,7 +83,7 @@ module _ (limit : ℕ) where
       rw (other, (both (is_open c) c.profile.tests o).0)
   arrival-quiet {r} {c = c} (closed f) bytes try k rest room =
       let four : (arrived limit c r bytes room).told.said.number ≡ 4 = ap (λ (x : Told Connection). x.number) (f.arrives bytes room) in
-      let same : (arrived limit c r bytes room).connection ≡ c = ap (λ (x : Told Connection). x.state) (f.arrives bytes room) in
+      let same : (arrived limit c r bytes room).left ≡ c = ap (λ (x : Told Connection). x.state) (f.arrives bytes room) in
       rw (four, same, not_opened (is_open c))
 
   -- the first frame of a link
@@ -100,7 +100,7 @@ module _ (limit : ℕ) where
       let not-closed : unit_closed v ≡ false = le-ltb v.phase 3 (omega (arith, ltb-true 5 v.phase open-now)) in
       rw (open-now, not-closed)
   hand-over-quiet {v = v} (closed f) m =
-      let same : (due_of v m).unit ≡ v = ap (λ (g : Given ControlUnit). g.state) (f.hands m) in
+      let same : (due_of v m).left ≡ v = ap (λ (g : Given ControlUnit). g.state) (f.hands m) in
       let none : (due_of v m).given ≡ false = ap (λ (g : Given ControlUnit). g.given) (f.hands m) in
       rw (same, none, not_opened (unit_open v), nothing-given (unit_closed v) _)
 

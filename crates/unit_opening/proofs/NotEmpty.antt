@@ -26,7 +26,7 @@ use Rattle.unit_opening.proofs.Fresh.{opening-fresh}
 abbrev pub start : (reply : ℕ) → Bench 1024
 start reply =
     record {
-      near = record { state = (opening closed_record defaults).connection; buffer = [] };
+      near = record { state = (opening closed_record defaults).left; buffer = [] };
       far = record { state = closed_with unit_defaults reply; buffer = [] };
       forward = [];
       backward = [];

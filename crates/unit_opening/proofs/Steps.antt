@@ -16,15 +16,15 @@ use Rattle.settings.specs.Agreed.{own_fields}
 use Rattle.settings.specs.declared.Settings.{Settings}
 use Rattle.channel.specs.declared.Answer.TheVariants.{Good}
 use Rattle.open_end.specs.declared.answers.Answer.TheVariants.{Refused}
-use Rattle.open_end.specs.Answers.{told}
+use Rattle.open_end.specs.Answers.{told, gives, marked, hand_nothing, hand_nothing as unit_hands_nothing}
 use Rattle.connection.specs.declared.Connection.{Connection}
 use Rattle.connection.specs.Record.{is_open, closed_record, requesting, opened}
-use Rattle.connection.specs.Calls.{gives, marked, hand_nothing, arrived, elapsed, due_of}
+use Rattle.connection.specs.Calls.{arrived, elapsed, due_of}
 use Rattle.connection.proofs.Rules.{due_of-closed, elapsed-closed}
 use Rattle.unit.specs.declared.ControlUnit.{ControlUnit}
 use Rattle.unit.proofs.Rules.{sent_by-before, taken_by-before, elapsed-before, due_of-closed as unit-hands-nothing}
 use Rattle.unit.specs.Record.{phase_closed, asked_by, closed_of, is_closed as unit_closed, is_open as unit_open}
-use Rattle.unit.specs.Calls.{hand_nothing as unit_hands_nothing, due_of as unit_due, sent_by as unit_sent, taken_by as unit_taken, elapsed as unit_elapsed}
+use Rattle.unit.specs.Calls.{due_of as unit_due, sent_by as unit_sent, taken_by as unit_taken, elapsed as unit_elapsed}
 use Rattle.delivery.specs.System.{Try, Flying, History, Act, Call, turned, lent, step, sending, taking, timing, asking, arriving, meeting}
 use Rattle.delivery.specs.System.Side.{near, far}
 use Rattle.delivery.specs.System.Fate.{goes, stays, lost}
@@ -51,12 +51,12 @@ pub record Ready (s : Settings) (u : ControlUnit) : Type 0 where
 -- how the unit may stand while the A1 is under way, with what it sent behind it, under the calls that are permitted: it begins open, its calls keep it so, and it is tied to a channel
 pub record Freedom (limit : ℕ) (s : Settings) (u : ControlUnit) (Free : ControlUnit → (behind : List Flying) → Type 0) (Permit : ControlUnit → Act → Type 0) : Type 0 where
   pub begins : Free (opens s u) []
-  pub sends : {v : ControlUnit} {behind : List Flying} → Free v behind → (m : List ℕ) → Permit v (send m) → Free (unit_sent limit v (length m)).unit behind
-  pub takes : {v : ControlUnit} {behind : List Flying} → Free v behind → (room : ℕ) → Free (unit_taken v room).unit behind
-  pub times : {v : ControlUnit} {behind : List Flying} → Free v behind → (n : ℕ) → Free (unit_elapsed v n).unit behind
+  pub sends : {v : ControlUnit} {behind : List Flying} → Free v behind → (m : List ℕ) → Permit v (send m) → Free (unit_sent limit v (length m)).left behind
+  pub takes : {v : ControlUnit} {behind : List Flying} → Free v behind → (room : ℕ) → Free (unit_taken v room).left behind
+  pub times : {v : ControlUnit} {behind : List Flying} → Free v behind → (n : ℕ) → Free (unit_elapsed v n).left behind
   pub hands : {v : ControlUnit} {behind : List Flying} → Free v behind → (m : List ℕ) → Permit v due → (t : Try)
       → (let d = unit_due v m in
-      Free d.unit (if d.given then behind ++ (record { id = d.frame.id; bytes = bytes_of d.frame.payload; try = t } ∷ []) else behind))
+      Free d.left (if d.given then behind ++ (record { id = d.frame.id; bytes = bytes_of d.frame.payload; try = t } ∷ []) else behind))
   pub ties : {v : ControlUnit} {behind : List Flying} → Free v behind → Acting s u limit v behind
 
 module _ (limit : ℕ) (s : Settings) (u : ControlUnit) (ready : Ready s u) where
@@ -69,9 +69,9 @@ module _ (limit : ℕ) (s : Settings) (u : ControlUnit) (ready : Ready s u) wher
 
   pub refusal-met : (wait room : ℕ) → Negative s u
       → arrived limit (awaiting (requesting s) wait) (request_id + u.settings.unit) (bytes_of (reply_of u.reply s.receive u.settings.receive)) room
-      ≡ marked false (record { told = told (Refused u.reply); connection = closed_record })
+      ≡ marked false (record { told = told (Refused u.reply); left = closed_record })
   refusal-met wait room n =
-      subst (λ (i : ℕ). arrived limit (awaiting (requesting s) wait) (request_id + i) (bytes_of (reply_of u.reply s.receive u.settings.receive)) room ≡ marked false (record { told = told (Refused u.reply); connection = closed_record }))
+      subst (λ (i : ℕ). arrived limit (awaiting (requesting s) wait) (request_id + i) (bytes_of (reply_of u.reply s.receive u.settings.receive)) room ≡ marked false (record { told = told (Refused u.reply); left = closed_record }))
       ready.one (refusal-arrives limit s wait u.reply s.receive u.settings.receive room n.refuses)
 
 -- an element stands before either outcome

@@ -40,7 +40,7 @@ arrival_ends limit c [] room = []
 arrival_ends limit c (f ∷ rest) room =
     (let r = arrived limit c f.id f.bytes room in
     if eqb r.told.said.number 11 then refused r.told.said.opcode ∷ []
-    else if not (is_open c) && is_open r.connection then opened_as r.connection.end ∷ []
+    else if not (is_open c) && is_open r.left then opened_as r.left.end ∷ []
     else [])
 
 -- the unit's opening ends with a frame that is handed over: with the A1 that opens, or with a closed unit's D6, D7 or D8
@@ -48,7 +48,7 @@ abbrev pub hand_over_ends : ControlUnit → (lent : List ℕ) → List Outcome
 hand_over_ends u m =
     (let d = due_of u m in
     let opcode = get_or (bytes_of d.frame.payload) 1 0 in
-    if not (unit_open u) && unit_open d.unit then opened_as d.unit.end ∷ []
+    if not (unit_open u) && unit_open d.left then opened_as d.left.end ∷ []
     else if unit_closed u && d.given && refusal opcode then refused opcode ∷ []
     else [])
 
@@ -144,7 +144,7 @@ module _ (limit : ℕ) where
   -- so that it was closed, and what was due is discarded; the unit is u, with settings and a reply that it takes. Buffers and histories are any
   pub record Begins (c : Connection) (s : Settings) (u : ControlUnit) (b : Bench) : Type 0 where
     pub answered : (opening c s).told.said.number ≡ 0
-    pub active : b.near.state ≡ (opening c s).connection
+    pub active : b.near.state ≡ (opening c s).left
     pub unit : b.far.state ≡ u
     pub closed : u.phase ≡ phase_closed
     pub set : settable u.settings u.reply ≡ true

@@ -16,9 +16,10 @@ use Rattle.opening.specs.Opening.{request_read, Request}
 use Rattle.open_end.specs.declared.answers.Said.{Said}
 use Rattle.open_end.specs.OpenEnd.{arrived_at, buffered_at}
 use Rattle.unit.specs.declared.ControlUnit.{ControlUnit}
-use Rattle.unit.specs.declared.Answered.{Answered}
-use Rattle.unit.specs.declared.Arrived.{Arrived}
-use Rattle.unit.specs.Calls.{marked, ends, on_request, on_setup, on_opening, at_end, on_open, arrived, buffered}
+use Rattle.open_end.specs.declared.answers.Answered.{Answered}
+use Rattle.open_end.specs.declared.answers.Arrived.{Arrived}
+use Rattle.unit.specs.Calls.{ends, on_request, on_setup, on_opening, at_end, on_open, arrived, buffered}
+use Rattle.open_end.specs.Answers.{marked}
 use Rattle.open_rows.specs.Tables.{told_by}
 use Rattle.open_rows.specs.Records.{tp20_numbers}
 use Rattle.open_rows.specs.Rows.{is_setup, no_message}
@@ -35,10 +36,10 @@ module _ (limit : ℕ) (c : ControlUnit) (id : ℕ) (s b : List ℕ) where
   tabled = told_by (arrival_table limit c id s b)
 
   -- what is said and left by an arrival with the buffer w then, and by an answer with its mark
-  abbrev tells : List ℕ → Arrived → Said × (Bool × ControlUnit × List ℕ)
-  tells w r = (r.told.said, (r.padded, r.unit, w))
+  abbrev tells : List ℕ → Arrived ControlUnit → Said × (Bool × ControlUnit × List ℕ)
+  tells w r = (r.told.said, (r.padded, r.left, w))
 
-  abbrev answers-told : List ℕ → Bool → Answered → Said × (Bool × ControlUnit × List ℕ)
+  abbrev answers-told : List ℕ → Bool → Answered ControlUnit → Said × (Bool × ControlUnit × List ℕ)
   answers-told w p r = tells w (marked p r)
 
   -- by a request, and by a telegram before the A1's hand-over

@@ -11,9 +11,9 @@ use Rattle.open_end.specs.declared.Frame.{Frame}
 use Rattle.open_end.specs.declared.answers.Said.{Said}
 use Rattle.open_end.specs.OpenEnd.{elapsed_at, due_at, sent_at, taken_at}
 use Rattle.unit.specs.declared.ControlUnit.{ControlUnit}
-use Rattle.unit.specs.declared.Answered.{Answered}
-use Rattle.unit.specs.declared.Due.{Due}
-use Rattle.unit.specs.declared.TakeStep.{TakeStep}
+use Rattle.open_end.specs.declared.answers.Answered.{Answered}
+use Rattle.open_end.specs.declared.answers.Due.{Due}
+use Rattle.open_end.specs.declared.answers.TakeStep.{TakeStep}
 use Rattle.unit.specs.Record.{settable, is_reply as replies}
 use Rattle.unit.specs.Calls.{set_to, open_elapsed, elapsed, open_due, due_of, open_sent, sent_by, open_taken, taken_by, closed}
 use Rattle.open_rows.specs.Tables.{told_by}
@@ -27,8 +27,8 @@ use Rattle.unit_rows.specs.Rows.{is_reply, set_table, set_says, time_table, time
 use Rattle.unit_rows.proofs.Ways.{ways_of, settled-by}
 
 -- what a call says and leaves
-abbrev tells : Answered → Said × ControlUnit
-tells r = (r.told.said, r.unit)
+abbrev tells : Answered ControlUnit → Said × ControlUnit
+tells r = (r.told.said, r.left)
 
 -- ---- set
 
@@ -59,8 +59,8 @@ time-told c n = by-not (Makes tells _) (is_open c) (λ e. rw e) (λ e. rw (e, se
 -- ---- what is due
 
 module _ (c : ControlUnit) (m : List ℕ) where
-  abbrev hands-over : Due → Said × (Bool × Frame × ControlUnit)
-  hands-over d = (d.told.said, (d.given, d.frame, d.unit))
+  abbrev hands-over : Due ControlUnit → Said × (Bool × Frame × ControlUnit)
+  hands-over d = (d.told.said, (d.given, d.frame, d.left))
 
   pub due-told : due_says c m ≡ told_by (due_table c m)
   unfolding due_of open_due due_at
@@ -79,8 +79,8 @@ unfolding sent_by open_sent sent_at
 send-told limit c n = by-not (Makes tells _) (is_open c) (λ e. rw e) (λ e. rw e (open-send (ways_of c) limit c.end n))
 
 module _ (c : ControlUnit) (room : ℕ) where
-  abbrev looks : TakeStep → Said × (ℕ × ℕ × ControlUnit)
-  looks r = (r.told.said, (r.len, r.flags, r.unit))
+  abbrev looks : TakeStep ControlUnit → Said × (ℕ × ℕ × ControlUnit)
+  looks r = (r.told.said, (r.len, r.flags, r.left))
 
   pub take-told : take_says c room ≡ told_by (take_table c room)
   unfolding taken_by open_taken taken_at

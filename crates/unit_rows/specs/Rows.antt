@@ -96,7 +96,7 @@ arrival_table limit c id s b =
 abbrev pub arrive_says : (limit : ℕ) → ControlUnit → (id : ℕ) → (s b : List ℕ) → Said × (Bool × ControlUnit × List ℕ)
 arrive_says limit c id s b =
     (let r = arrived limit c id s (length b) in
-    (r.told.said, (r.padded, r.unit, buffered limit c id s b)))
+    (r.told.said, (r.padded, r.left, buffered limit c id s b)))
 
 -- ---- set
 
@@ -113,7 +113,7 @@ set_table c s reply =
 
 -- what a set says and leaves
 abbrev pub set_says : ControlUnit → Settings → (reply : ℕ) → Said × ControlUnit
-set_says c s reply = ((set_to c s reply).told.said, (set_to c s reply).unit)
+set_says c s reply = ((set_to c s reply).told.said, (set_to c s reply).left)
 
 -- ---- time passes
 
@@ -126,7 +126,7 @@ time_table c n =
 
 -- what a time call says and leaves
 abbrev pub time_says : ControlUnit → ℕ → Said × ControlUnit
-time_says c n = ((elapsed c n).told.said, (elapsed c n).unit)
+time_says c n = ((elapsed c n).told.said, (elapsed c n).left)
 
 -- ---- what is due
 
@@ -162,7 +162,7 @@ due_table c m =
 
 -- what a due call says, hands over and leaves
 abbrev pub due_says : ControlUnit → (m : List ℕ) → Said × (Bool × Frame × ControlUnit)
-due_says c m = ((due_of c m).told.said, ((due_of c m).given, (due_of c m).frame, (due_of c m).unit))
+due_says c m = ((due_of c m).told.said, ((due_of c m).given, (due_of c m).frame, (due_of c m).left))
 
 -- ---- send, take and close
 
@@ -177,7 +177,7 @@ send_table limit c n =
 
 -- what a send says and leaves
 abbrev pub send_says : (limit : ℕ) → ControlUnit → (n : ℕ) → Said × ControlUnit
-send_says limit c n = ((sent_by limit c n).told.said, (sent_by limit c n).unit)
+send_says limit c n = ((sent_by limit c n).told.said, (sent_by limit c n).left)
 
 -- "Take: 4, 5, 7"; what is shown has the declared length, and the reader "reports the four flags with the message" (02, request 1); a refusal shows and reports none
 abbrev pub take_table : ControlUnit → (room : ℕ) → Table (ℕ × ℕ × ControlUnit)
@@ -191,7 +191,7 @@ take_table c room =
 
 -- what a take says, the length that it shows, the flags that it reports, and what it leaves
 abbrev pub take_says : ControlUnit → (room : ℕ) → Said × (ℕ × ℕ × ControlUnit)
-take_says c room = ((taken_by c room).told.said, ((taken_by c room).len, (taken_by c room).flags, (taken_by c room).unit))
+take_says c room = ((taken_by c room).told.said, ((taken_by c room).len, (taken_by c room).flags, (taken_by c room).left))
 
 -- "any .. close on a closed record" gives 4, and what is due stays; "leaves one A8 due"
 abbrev pub close_table : ControlUnit → Table ControlUnit
@@ -201,4 +201,4 @@ close_table c =
 
 -- what a close says and leaves
 abbrev pub close_says : ControlUnit → Said × ControlUnit
-close_says c = ((closed c).told.said, (closed c).unit)
+close_says c = ((closed c).told.said, (closed c).left)

@@ -49,7 +49,7 @@ pub record UnitRows : Type 0 where
   pub looks :
       (c : ControlUnit) (buffer : Bor (List ℕ)) →
       ((takes c buffer).told.said ≡ (told_by (take_table c (length buffer.now))).0)
-      × ((takes c buffer).unit ≡ (told_by (take_table c (length buffer.now))).1.2)
+      × ((takes c buffer).left ≡ (told_by (take_table c (length buffer.now))).1.2)
   -- "A refusal never writes to the buffer"
   pub keeps :
       (limit : ℕ) (c : ControlUnit) (id : ℕ) (s b : List ℕ) →

@@ -10,7 +10,7 @@ use Rattle.telegram.specs.declared.kinds.Telegram.TheVariants.{Data, Ack, Test, 
 use Rattle.arrival.proofs.Arriving.{unwritten}
 use Rattle.open_end.specs.OpenEnd.{buffered_at}
 use Rattle.unit.specs.declared.ControlUnit.{ControlUnit}
-use Rattle.unit.specs.declared.Answered.{Answered}
+use Rattle.open_end.specs.declared.answers.Answered.{Answered}
 use Rattle.unit.specs.Calls.{on_setup, at_end, on_open}
 use Rattle.unit.proofs.ControlUnit.on_open.Goals as goal
 
@@ -27,7 +27,7 @@ at-end-so c (Accept p) s room h = refl
 at-end-so c Malformed s room h = refl
 
 -- an A0 writes nothing
-set-up : (c : ControlUnit) (k : Telegram) (p : Fields) (s b : List ℕ) (x : Answered) → k ≡ Setup p → x ≡ on_setup c p
+set-up : (c : ControlUnit) (k : Telegram) (p : Fields) (s b : List ℕ) (x : Answered ControlUnit) → k ≡ Setup p → x ≡ on_setup c p
     → (x ≡ on_open longest c k s (length b)) × (b ≡ buffered_at longest c.end k s b)
 unfolding on_open buffered_at
 set-up c k p s b x is e = rw (is, e) (refl, sym (unwritten longest c.end.channel (Setup p) (drop 1 s) b tt))
