@@ -1,6 +1,9 @@
 -- The lowest place of which something holds: it is at most 8, below 8 it holds there, and below that place it holds nowhere.
 --     lowest-most, lowest-holds, lowest-misses     of anything
 --     lowest-is, lowest-nowhere                    the place at which it holds first, and 8 where it holds at none
+--     lowest-named, lowest-used                    as a search over the list of records finds it, of eight
+--     named-is, named-none                         what a place's name says
+--     got, got-none                                what `get` at a place gives
 --     owner-hears, owner-first                     of the place that owns an ID
 --     free-most, free-closed, free-first           of the lowest closed place
 --     used-at, unused-at                           what is in use is so at some place, and what is not is so at none
@@ -8,12 +11,26 @@ use Prim.Native.Nat.{ℕ, zero, suc, ◌+◌, ◌≤◌, ◌<◌, zero-le}
 use native.Mathlib.Omega.{arith}
 use mathlib.Core.Bool.{Bool, true, false, true≢false}
 use mathlib.Core.Path.{◌≡◌, sym, ◌∙◌}
-use borrow.Author.Tests.{ltb-true, ltb-false}
-use Rattle.laws.proofs.Cases.{by, by-eq, by-lt}
+use lib.Dec.{leb, ltb}
+use lib.ListN.{length}
+use denote.Ref.{Bor}
+use mathlib.Core.Path.{ap}
+use mathlib.Core.Bool.{cond}
+use borrow.Author.Tests.{ltb-true, ltb-false, le-leb, lt-leb}
+use Rattle.std.specs.Prelude.{Option, Some, None}
+use Rattle.std.specs.List.{position_or_len, list_any}
+use Rattle.std.specs.Slice.{IsItemAt}
+use Rattle.std.proofs.lemmas.List.{get_or_default}
+use Rattle.std.proofs.lemmas.List.Sums.{position_or_len_is}
+use Rattle.std.proofs.lemmas.List.Folds.{list_any_at, list_any_none}
+use Rattle.laws.proofs.Cases.{by, by-eq, by-lt, by_le, either}
 use Rattle.connection.specs.declared.Connection.{Connection}
 use Rattle.connection.specs.Record.{is_closed, hears}
 use Rattle.table.specs.declared.Table.{Table}
-use Rattle.table.specs.Table.{places, at, lowest_from, lowest, owner_of, free_of, uses_either, is_used}
+use Rattle.table.specs.Table.{places, no_record, at, named, lowest_from, lowest, owner_of, free_of, uses_either, is_used}
+
+some_not_none : {p : ℕ} → Some p ≡ None → ⊥
+some_not_none e = let z : ◌≡◌ {A = ℕ} 0 1 = cc in omega arith
 
 module _ (P : Connection → Bool) (t : Table) where
   -- from a place on, of so many
@@ -59,6 +76,39 @@ module _ (P : Connection → Bool) (t : Table) where
 
   pub lowest-nowhere : ((q : ℕ) → q < places → P (at t q) ≡ false) → lowest P t ≡ places
   lowest-nowhere = nowhere-from (lowest P t) lowest-most lowest-holds
+
+  module _ (eight : length t.places ≡ places) where
+    first-is : position_or_len P t.places ≡ lowest P t
+    first-is = position_or_len_is P t.places (lowest P t) no_record (omega (arith, lowest-most)) lowest-misses (λ h. lowest-holds (omega arith))
+
+    -- the search over the list of records
+    pub lowest-named : cond (ltb (position_or_len P t.places) (length t.places)) (Some (position_or_len P t.places)) None ≡ named (lowest P t)
+    lowest-named = rw (first-is, eight) (two-ways (lowest P t))
+      where
+        two-ways : (l : ℕ) → cond (ltb l 8) (Some l) None ≡ named l
+        two-ways l = by-lt (λ (r : Option ℕ). r ≡ named l) l 8 (λ less. rw (lt-leb 8 l less)) (λ out. rw (le-leb 8 l out))
+
+    -- whether it finds one
+    pub lowest-used : list_any P t.places ≡ ltb (lowest P t) places
+    lowest-used = either (ltb (lowest P t) places)
+        (λ e. let some = ltb-true (lowest P t) places e in list_any_at P t.places (lowest P t) no_record (omega arith) (lowest-holds some) ∙ sym e)
+        (λ e. let none = ltb-false (lowest P t) places e in
+        list_any_none P t.places (λ k d h. ap P (get_or_default t.places k d no_record h) ∙ lowest-misses k (omega arith)) ∙ sym e)
+
+-- a name is that of a place, the number that it was made of, and no name is that of none
+pub named-is : (n p : ℕ) → Some p ≡ named n → (leb places n ≡ false) × (p ≡ n)
+named-is n p = by_le (λ (r : Option ℕ). Some p ≡ r → (leb places n ≡ false) × (p ≡ n)) places n (λ _ e. absurd (some_not_none e)) (λ h e. (lt-leb places n h, cc))
+
+pub named-none : (n : ℕ) → None ≡ named n → leb places n ≡ true
+named-none n = by_le (λ (r : Option ℕ). None ≡ r → leb places n ≡ true) places n (λ h _. le-leb places n h) (λ _ e. absurd (some_not_none (sym e)))
+
+-- what `get` at a place gives: its record, and none past the last place
+module _ (t : Table) (p : ℕ) (eight : length t.places ≡ places) where
+  pub got : (r : Bor Connection) → IsItemAt t.places p (Some r) → (leb places p ≡ false) × (r.now ≡ at t p)
+  got r h = (lt-leb places p (omega (arith, h.3.0)), h.4 (omega arith) no_record)
+
+  pub got-none : IsItemAt t.places p None → leb places p ≡ true
+  got-none h = le-leb places p (omega (arith, h.3))
 
 module _ (t : Table) where
   -- the place that owns an ID hears it, and no lower place does

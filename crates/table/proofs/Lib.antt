@@ -1,4 +1,3 @@
-pub mod Lowest
 pub mod Found
 pub mod Rules
 pub mod Places

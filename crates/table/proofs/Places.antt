@@ -27,7 +27,7 @@ use Rattle.open_end.specs.declared.answers.Arrived.{Arrived as RecordArrived}
 use Rattle.connection.specs.Record.{is_closed, is_requesting, is_agreeing, listens_on, hears}
 use Rattle.connection.specs.Calls.{on_reply, on_accept, on_agreeing, on_open, arrived, buffered, elapsed, due_of, sent_by, taken_by, closed}
 use Rattle.table.specs.declared.Table.{Table}
-use Rattle.table.specs.declared.Place.TheVariants.{Nowhere, At}
+use Rattle.std.specs.Prelude.{Some, None}
 use Rattle.table.specs.declared.Arrived.{Arrived}
 use Rattle.table.specs.declared.Answered.{Answered}
 use Rattle.table.specs.Table.{named, owner_of}
@@ -77,23 +77,23 @@ module _ (t : Table) (id : ℕ) where
   no-owner none = lowest-nowhere (λ c. hears c id) t (λ j h. deaf (record_at t j) id (none j h))
 
   -- "each found by the ID it listens on"
-  pub owner_at : (p : ℕ) → p < 8 → Listens (record_at t p) id → ((j : ℕ) → j < p → Listens (record_at t j) id → ⊥) → named (owner_of t id) ≡ At p
+  pub owner_at : (p : ℕ) → p < 8 → Listens (record_at t p) id → ((j : ℕ) → j < p → Listens (record_at t j) id → ⊥) → named (owner_of t id) ≡ Some p
   owner_at p h hear below = rw (is-owner p h hear below, lt-leb 8 p h)
 
-  pub owner-none : NoneListens t id → named (owner_of t id) ≡ Nowhere
+  pub owner-none : NoneListens t id → named (owner_of t id) ≡ None
   owner-none none = rw (no-owner none)
 
 -- ---- a frame arrives
 
 -- 3, nothing changed, no mark, and no place
 abbrev pub three : Table → Arrived
-three t = record { told = record { answer = OtherId; said = record { number = 3; done = false; opcode = 0 } }; padded = false; place = Nowhere; table = t }
+three t = record { told = record { answer = OtherId; said = record { number = 3; done = false; opcode = 0 } }; padded = false; place = None; table = t }
 
 -- the answer and the mark of a place's record, that place named, and that place alone changed
 pub record Goes (t : Table) (p : ℕ) (r : RecordArrived Connection) (a : Arrived) : Type 0 where
   pub told : a.told ≡ r.told
   pub padded : a.padded ≡ r.padded
-  pub place : a.place ≡ At p
+  pub place : a.place ≡ Some p
   pub table : Alone t p r.left a.table
 
 -- no answer of an open channel is 3

@@ -21,7 +21,7 @@ use Rattle.connection.specs.declared.Connection.{Connection}
 use Rattle.connection.specs.Calls.{opening}
 use Rattle.connection.proofs.Rules.{plain, opening-leaves}
 use Rattle.table.specs.declared.Table.{Table}
-use Rattle.table.specs.declared.Place.TheVariants.{Nowhere, At}
+use Rattle.std.specs.Prelude.{Some, None}
 use Rattle.table.specs.declared.Opened.{Opened}
 use Rattle.table.specs.Table.{with, free_of, uses_either, is_used, reserved}
 use Rattle.table.specs.Calls.{opens}
@@ -107,10 +107,10 @@ asking s =
 
 -- 13 and 10: nothing changed, and no place named
 abbrev pub thirteen : Table → Opened
-thirteen t = record { told = record { answer = Full; said = record { number = 13; done = false; opcode = 0 } }; place = Nowhere; table = t }
+thirteen t = record { told = record { answer = Full; said = record { number = 13; done = false; opcode = 0 } }; place = None; table = t }
 
 abbrev pub ten : Table → Opened
-ten t = record { told = record { answer = OutOfRange; said = record { number = 10; done = false; opcode = 0 } }; place = Nowhere; table = t }
+ten t = record { told = record { answer = OutOfRange; said = record { number = 10; done = false; opcode = 0 } }; place = None; table = t }
 
 -- "otherwise the lowest closed place is used and named", A8 due there or not
 pub record Took (t : Table) (s : Settings) (p : ℕ) (r : Opened) : Type 0 where
@@ -118,7 +118,7 @@ pub record Took (t : Table) (s : Settings) (p : ℕ) (r : Opened) : Type 0 where
   pub closed : (record_at t p).phase ≡ 0
   pub lowest : (j : ℕ) → j < p → (record_at t j).phase ≢ 0
   pub told : r.told ≡ plainly Good 0
-  pub place : r.place ≡ At p
+  pub place : r.place ≡ Some p
   pub table : Alone t p (asking s) r.table
 
 -- an opening that is none of these
@@ -184,10 +184,10 @@ opens-outcome t s =
       ),
     ))
 
-nowhere-not-at : (p : ℕ) → Nowhere ≡ At p → ⊥
+nowhere-not-at : (p : ℕ) → None ≡ Some p → ⊥
 nowhere-not-at p e = let z : ◌≡◌ {A = ℕ} 0 1 = cc in omega arith
 
-at_one : (q p : ℕ) → At q ≡ At p → q ≡ p
+at_one : (q p : ℕ) → Some q ≡ Some p → q ≡ p
 at_one q p e = cc
 
 module _ (t : Table) (s : Settings) where
@@ -270,7 +270,7 @@ module _ (t : Table) (s : Settings) where
   )
 
   -- "used and named": a place is named exactly by an opening that took it
-  pub open-named : (p : ℕ) → (opens t s).place ≡ At p → Took t s p (opens t s)
+  pub open-named : (p : ℕ) → (opens t s).place ≡ Some p → Took t s p (opens t s)
   open-named p n =
       cases (opens t s) (opens-outcome t s)
       (λ _ e. absurd (nowhere-not-at p (sym (ap (λ r. r.place) e) ∙ n)))

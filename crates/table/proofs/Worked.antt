@@ -18,7 +18,7 @@ use Rattle.connection.specs.Record.{listens_on, hears}
 use Rattle.connection.specs.Calls.{opening_as, on_reply, on_agreeing, arrived, request_due, due_of, closed}
 use Rattle.connection.proofs.Rules.{plain, at_rest}
 use Rattle.table.specs.declared.Table.{Table}
-use Rattle.table.specs.declared.Place.TheVariants.{Nowhere, At}
+use Rattle.std.specs.Prelude.{Some, None}
 use Rattle.table.specs.declared.Opened.{Opened}
 use Rattle.table.specs.Table.{empty, named, owner_of, free_of, uses_either, is_used, reserved}
 use Rattle.table.specs.Calls.{opens, arrives, hands, closes}
@@ -85,7 +85,7 @@ full_table =
 
 -- what an opening gives that took a place
 abbrev pub took : (place : ℕ) → Table → Opened
-took p t = record { told = plainly Good 0; place = At p; table = t }
+took p t = record { told = plainly Good 0; place = Some p; table = t }
 
 -- a ninth opening overwrites no place
 pub ninth-refused : opens full_table (unit_at 9 0x309) ≡ thirteen full_table
@@ -175,11 +175,11 @@ unfolding opens free_of reserved is_used uses_either allowed_by within bad_block
 replied-is = refl
 
 -- "0x200 + unit until its D0, then its receive ID"
-pub before-its-d0 : (named (owner_of asked 0x205) ≡ At 0) × (named (owner_of asked 0x305) ≡ Nowhere)
+pub before-its-d0 : (named (owner_of asked 0x205) ≡ Some 0) × (named (owner_of asked 0x305) ≡ None)
 unfolding opens free_of reserved is_used uses_either allowed_by within bad_block tenths_of opening_as hands due_of request_due owner_of hears listens_on
 before-its-d0 = (refl, refl)
 
-pub behind-its-d0 : (named (owner_of (row (granted 5 0x305 0x740) rest rest) 0x205) ≡ Nowhere) × (named (owner_of (row (granted 5 0x305 0x740) rest rest) 0x305) ≡ At 0)
+pub behind-its-d0 : (named (owner_of (row (granted 5 0x305 0x740) rest rest) 0x205) ≡ None) × (named (owner_of (row (granted 5 0x305 0x740) rest rest) 0x305) ≡ Some 0)
 unfolding owner_of hears listens_on
 behind-its-d0 = (refl, refl)
 
@@ -201,12 +201,12 @@ open-in-use = refl
 
 -- a frame for the second place, here an A8, is not given to the first, though that is open
 pub second-hears : arrives 1024 (row (opened 1 0x301 0x741) (granted 2 0x302 0x742) (opened 3 0x303 0x743)) 0x302 (0xA8 ∷ []) 0
-    ≡ record { told = plainly Disconnected 0; padded = false; place = At 1; table = row (opened 1 0x301 0x741) (at_rest true 0x742) (opened 3 0x303 0x743) }
+    ≡ record { told = plainly Disconnected 0; padded = false; place = Some 1; table = row (opened 1 0x301 0x741) (at_rest true 0x742) (opened 3 0x303 0x743) }
 unfolding arrives owner_of hears listens_on arrived sorted_by on_agreeing kind_of
 second-hears = refl
 
 -- "closed, none": a closed place owns neither its receive ID nor 0x200 + unit
-pub closed-owns-none : (named (owner_of (row (in_phase 0 5 0x305 0x745) rest rest) 0x305) ≡ Nowhere) × (named (owner_of (row (in_phase 0 5 0x305 0x745) rest rest) 0x205) ≡ Nowhere)
+pub closed-owns-none : (named (owner_of (row (in_phase 0 5 0x305 0x745) rest rest) 0x305) ≡ None) × (named (owner_of (row (in_phase 0 5 0x305 0x745) rest rest) 0x205) ≡ None)
 unfolding owner_of hears listens_on
 closed-owns-none = (refl, refl)
 
@@ -216,6 +216,6 @@ unfolding arrives owner_of hears listens_on
 all_closed limit id s room = refl
 
 -- a place that is closed by a call owns its ID no more
-pub closed-by-a-call : named (owner_of (closes (row (opened 1 0x301 0x741) (opened 2 0x302 0x742) rest) 1).table 0x302) ≡ Nowhere
+pub closed-by-a-call : named (owner_of (closes (row (opened 1 0x301 0x741) (opened 2 0x302 0x742) rest) 1).table 0x302) ≡ None
 unfolding closes closed owner_of hears listens_on
 closed-by-a-call = refl

@@ -1,5 +1,5 @@
 -- 02, 7, "Several units at a time": what each call of a table answers and leaves.
-use Rattle.std.specs.Prelude.{ℕ, false, not, List, length, take, leb, if◌then◌else◌}
+use Rattle.std.specs.Prelude.{ℕ, false, not, List, length, take, leb, if◌then◌else◌, None}
 use Rattle.std.specs.Borrow.{Bor}
 use Rattle.settings.specs.Settings.{allowed}
 use Rattle.settings.specs.declared.Settings.{Settings}
@@ -12,7 +12,6 @@ use Rattle.open_end.specs.declared.answers.Answered.{Answered as RecordAnswered}
 use Rattle.connection.specs.declared.Connection.{Connection}
 use Rattle.connection.specs.Calls.{opening, arrived, buffered, elapsed, due_of, sent_by, taken_by, closed}
 use Rattle.table.specs.declared.Table.{Table}
-use Rattle.table.specs.declared.Place.TheVariants.{Nowhere}
 use Rattle.table.specs.declared.Opened.{Opened}
 use Rattle.table.specs.declared.Arrived.{Arrived}
 use Rattle.table.specs.declared.Answered.{Answered}
@@ -25,11 +24,11 @@ use Rattle.table.specs.Table.{places, at, with, named, owner_of, free_of, is_use
 
 -- 13, nothing changed
 abbrev pub full : Table → Opened
-full t = record { told = told Full; place = Nowhere; table = t }
+full t = record { told = told Full; place = None; table = t }
 
 -- 10, nothing changed
 abbrev pub refuses : Table → Opened
-refuses t = record { told = told OutOfRange; place = Nowhere; table = t }
+refuses t = record { told = told OutOfRange; place = None; table = t }
 
 -- 13 "exactly when all eight places are open or opening, and comes before 10; otherwise the lowest closed place is used and named"
 unfoldable pub opens : Table → Settings → Opened
@@ -47,7 +46,7 @@ opens t s =
 -- "Arriving frames go to the one owner; a frame for none is answer 3"
 unfoldable pub arrives : (limit : ℕ) → Table → (id : ℕ) → (s : List ℕ) → (room : ℕ) → Arrived
 arrives limit t id s room =
-    if leb places (owner_of t id) then record { told = told OtherId; padded = false; place = Nowhere; table = t }
+    if leb places (owner_of t id) then record { told = told OtherId; padded = false; place = None; table = t }
     else
     (let r = arrived limit (at t (owner_of t id)) id s room in
     record { told = r.told; padded = r.padded; place = named (owner_of t id); table = with t (owner_of t id) r.left })

@@ -1,11 +1,9 @@
 -- 02, 7, "Several units at a time": the table, who owns an ID, and what is in use.
-use Rattle.std.specs.Prelude.{ℕ, zero, suc, ◌+◌, Bool, false, not, ◌&&◌, ◌||◌, get_or, set, replicate, ltb, leb, eqb, if◌then◌else◌}
+use Rattle.std.specs.Prelude.{ℕ, zero, suc, ◌+◌, Bool, false, not, ◌&&◌, ◌||◌, get_or, set, replicate, ltb, leb, eqb, if◌then◌else◌, Option, Some, None}
 use Rattle.connection.specs.declared.Connection.{Connection}
 use Rattle.open_end.specs.OpenEnd.{unopened}
 use Rattle.connection.specs.Record.{phase_closed, is_closed, no_attempt, closed_record, hears}
 use Rattle.table.specs.declared.Table.{Table}
-use Rattle.table.specs.declared.Place.{Place}
-use Rattle.table.specs.declared.Place.TheVariants.{Nowhere, At}
 
 -- ---- the places
 
@@ -50,8 +48,8 @@ abbrev pub with : Table → ℕ → Connection → Table
 with t p c = record { places = set t.places p c }
 
 -- a place by its number, and none for 8 and more
-abbrev pub named : ℕ → Place
-named p = if leb places p then Nowhere else At p
+abbrev pub named : ℕ → Option ℕ
+named p = if leb places p then None else Some p
 
 -- ---- the lowest place of which something holds, and 8 for none
 

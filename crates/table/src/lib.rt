@@ -7,7 +7,7 @@
 ghost use Rattle.std.specs.Prelude.{◌≡◌, length};
 ghost use Rattle.telegram.specs.Cutting.{longest};
 ghost use Rattle.table.specs.Table.{empty, owner_of, named, free_of, uses_either, is_used, reserved};
-ghost use Rattle.table.specs.Calls.{refuses, nowhere, opens, arrives, buffers, elapses, hands, sends, takes, shows, looked, closes};
+ghost use Rattle.table.specs.Calls.{nowhere, opens, arrives, buffers, elapses, hands, sends, takes, shows, looked, closes};
 
 use connection::{CLOSED, Connection};
 use open_end::answers::{Answer, Told, tell};
@@ -20,30 +20,23 @@ pub const PLACES: usize = 8;
 // The records, one a place.
 #[derive(Clone, Copy)]
 pub struct Table {
-    pub places: [Connection; 8],
+    pub places: [Connection; PLACES],
 }
 
-// A place, or none.
-#[derive(Clone, Copy)]
-pub enum Place {
-    Nowhere,
-    At(u8),
-}
-
-// What an opening tells, the place that it took, and the table that it leaves.
+// What an opening tells, the place that it took, if it took one, and the table that it leaves.
 #[derive(Clone, Copy)]
 pub struct Opened {
     pub told: Told,
-    pub place: Place,
+    pub place: Option<u8>,
     pub table: Table,
 }
 
-// What a frame that arrives tells, whether its telegram is padded, its owner's place, and the table that it leaves.
+// What a frame that arrives tells, whether its telegram is padded, its owner's place, if it has one, and the table that it leaves.
 #[derive(Clone, Copy)]
 pub struct Arrived {
     pub told: Told,
     pub padded: bool,
-    pub place: Place,
+    pub place: Option<u8>,
     pub table: Table,
 }
 
@@ -82,39 +75,20 @@ pub struct Taken<'a> {
     pub message: &'a [u8],
 }
 
-// A place by its number, and none for 8 and more.
-fn named(place: usize) -> Place
-    ensures { result ≡ named place }
-{
-    if PLACES <= place {
-        return Place::Nowhere;
-    }
-    Place::At((place % 256) as u8)
-}
-
 // Whether replies to a C0, which come from 0x200 + unit, may come on this ID.
+#[tactic(auto, using(laws::proofs::Branches::branches), unfolding(crate::specs::Table::reserved))]
 fn reserved(receive: u16) -> bool
     ensures { result ≡ reserved receive }
 {
-    if receive < 0x200 {
-        return false;
-    }
-    receive <= 0x2EF
+    matches!(receive, 0x200..=0x2EF)
 }
 
 // Whether a record that is open or opening has this unit or this receive ID.
+#[tactic(auto, using(laws::proofs::Branches::branches), unfolding(crate::specs::Table::uses_either))]
 fn uses_either(c: Connection, unit: u8, receive: u16) -> bool
     ensures { result ≡ uses_either unit receive c }
 {
-    let phase = c.phase;
-    let s = c.settings;
-    if phase == CLOSED {
-        return false;
-    }
-    if s.unit == unit {
-        return true;
-    }
-    s.receive == receive
+    c.phase != CLOSED && (c.settings.unit == unit || c.settings.receive == receive)
 }
 
 impl Table {
@@ -122,107 +96,66 @@ impl Table {
     pub fn empty() -> Table
         ensures { result ≡ empty }
     {
-        let closed = Connection::closed();
         Table {
-            places: [closed; 8],
+            places: [Connection::closed(); PLACES],
         }
     }
 
-    // The lowest place whose record listens on an ID, and 8 for none.
-    fn owner_of(self, id: u16) -> usize
-        ensures { result ≡ owner_of self id }
+    // The lowest place whose record listens on an ID.
+    fn owner_of(self, id: u16) -> Option<usize>
+        ensures { result ≡ named (owner_of self id) }
     {
-        let mut p = 0;
-        while p < PLACES {
-            let c = self.places[p];
-            if c.hears(id) {
-                return p;
-            }
-            p += 1;
-        }
-        p
+        self.places.iter().position(|c| c.hears(id))
     }
 
-    // The lowest closed place, and 8 for none.
-    fn free(self) -> usize
-        ensures { result ≡ free_of self }
+    // The lowest closed place.
+    fn free(self) -> Option<usize>
+        ensures { result ≡ named (free_of self) }
     {
-        let mut p = 0;
-        while p < PLACES {
-            let c = self.places[p];
-            let phase = c.phase;
-            if phase == CLOSED {
-                return p;
-            }
-            p += 1;
-        }
-        p
+        self.places.iter().position(|c| c.phase == CLOSED)
     }
 
     // Whether a unit or a receive ID is in use at some place.
     fn is_used(self, unit: u8, receive: u16) -> bool
         ensures { result ≡ is_used self unit receive }
     {
-        let mut p = 0;
-        while p < PLACES {
-            let c = self.places[p];
-            if uses_either(c, unit, receive) {
-                return true;
-            }
-            p += 1;
-        }
-        false
+        self.places.iter().any(|&c| uses_either(c, unit, receive))
     }
 
     // The place that owns an ID.
-    pub fn owner(self, id: u16) -> Place
+    pub fn owner(self, id: u16) -> Option<u8>
         ensures { result ≡ named (owner_of self id) }
     {
-        named(self.owner_of(id))
-    }
-
-    // Settings that the table does not take.
-    fn refuses(self) -> Opened
-        ensures { result ≡ refuses self }
-    {
-        Opened {
-            told: tell(Answer::OutOfRange),
-            place: Place::Nowhere,
-            table: self,
-        }
+        let p = self.owner_of(id)?;
+        Some(p as u8)
     }
 
     // Opens the lowest closed place.
     pub fn open(mut self, settings: Settings) -> Opened
         ensures { result ≡ opens self settings }
     {
-        let p = self.free();
-        let unit = settings.unit;
-        let receive = settings.receive;
-        if PLACES <= p {
+        let Some(p) = self.free() else {
             return Opened {
                 told: tell(Answer::Full),
-                place: Place::Nowhere,
+                place: None,
+                table: self,
+            };
+        };
+        if reserved(settings.receive)
+            || self.is_used(settings.unit, settings.receive)
+            || !settings.in_range()
+        {
+            return Opened {
+                told: tell(Answer::OutOfRange),
+                place: None,
                 table: self,
             };
         }
-        if reserved(receive) {
-            return self.refuses();
-        }
-        if self.is_used(unit, receive) {
-            return self.refuses();
-        }
-        if !settings.in_range() {
-            return self.refuses();
-        }
-        let c = self.places[p];
-        let r = c.open(settings);
-        let told = r.told;
-        let next = r.left;
-        self.places[p] = next;
+        let r = self.places[p].open(settings);
+        self.places[p] = r.left;
         Opened {
-            told,
-            place: named(p),
+            told: r.told,
+            place: Some(p as u8),
             table: self,
         }
     }
@@ -232,24 +165,20 @@ impl Table {
         ensures value { result ≡ arrives longest self id bytes.now (length buffer.old) }
         ensures buffer_after { buffer.new ≡ buffers longest self id bytes.now buffer.old }
     {
-        let p = self.owner_of(id);
-        if PLACES <= p {
+        let Some(p) = self.owner_of(id) else {
             return Arrived {
                 told: tell(Answer::OtherId),
                 padded: false,
-                place: Place::Nowhere,
+                place: None,
                 table: self,
             };
-        }
-        let c = self.places[p];
-        let r = c.arrive(id, bytes, buffer);
-        let told = r.told;
-        let next = r.left;
-        self.places[p] = next;
+        };
+        let r = self.places[p].arrive(id, bytes, buffer);
+        self.places[p] = r.left;
         Arrived {
-            told,
+            told: r.told,
             padded: r.padded,
-            place: named(p),
+            place: Some(p as u8),
             table: self,
         }
     }
@@ -269,15 +198,15 @@ impl Table {
         ensures { result ≡ elapses self place tenths }
     {
         let p = place as usize;
-        if PLACES <= p {
+        let Some(c) = self.places.get(p) else {
             return self.nowhere();
-        }
-        let c = self.places[p];
+        };
         let r = c.elapse(tenths);
-        let told = r.told;
-        let next = r.left;
-        self.places[p] = next;
-        Answered { told, table: self }
+        self.places[p] = r.left;
+        Answered {
+            told: r.told,
+            table: self,
+        }
     }
 
     // What a place has due: at most one frame, the message in sending there being lent.
@@ -285,24 +214,20 @@ impl Table {
         ensures { result ≡ hands self place message.now }
     {
         let p = place as usize;
-        if PLACES <= p {
+        let Some(c) = self.places.get(p) else {
             return Due {
                 told: tell(Answer::Channel(channel::Answer::NotDue)),
                 given: false,
                 frame: no_frame(),
                 table: self,
             };
-        }
-        let c = self.places[p];
+        };
         let d = c.due(message);
-        let told = d.told;
-        let frame = d.frame;
-        let next = d.left;
-        self.places[p] = next;
+        self.places[p] = d.left;
         Due {
-            told,
+            told: d.told,
             given: d.given,
-            frame,
+            frame: d.frame,
             table: self,
         }
     }
@@ -312,15 +237,15 @@ impl Table {
         ensures { result ≡ sends longest self place (length message.now) }
     {
         let p = place as usize;
-        if PLACES <= p {
+        let Some(c) = self.places.get(p) else {
             return self.nowhere();
-        }
-        let c = self.places[p];
+        };
         let r = c.send(message);
-        let told = r.told;
-        let next = r.left;
-        self.places[p] = next;
-        Answered { told, table: self }
+        self.places[p] = r.left;
+        Answered {
+            told: r.told,
+            table: self,
+        }
     }
 
     // What taking a message at a place comes to, in a lent buffer of room bytes.
@@ -328,21 +253,18 @@ impl Table {
         ensures { result ≡ takes self place room }
     {
         let p = place as usize;
-        if PLACES <= p {
+        let Some(c) = self.places.get(p) else {
             return TakeStep {
                 told: tell(Answer::Channel(channel::Answer::NotDue)),
                 len: 0,
                 flags: 0,
                 table: self,
             };
-        }
-        let c = self.places[p];
+        };
         let t = c.take_step(room);
-        let told = t.told;
-        let next = t.left;
-        self.places[p] = next;
+        self.places[p] = t.left;
         TakeStep {
-            told,
+            told: t.told,
             len: t.len,
             flags: t.flags,
             table: self,
@@ -368,14 +290,14 @@ impl Table {
         ensures { result ≡ closes self place }
     {
         let p = place as usize;
-        if PLACES <= p {
+        let Some(c) = self.places.get(p) else {
             return self.nowhere();
-        }
-        let c = self.places[p];
+        };
         let r = c.close();
-        let told = r.told;
-        let next = r.left;
-        self.places[p] = next;
-        Answered { told, table: self }
+        self.places[p] = r.left;
+        Answered {
+            told: r.told,
+            table: self,
+        }
     }
 }

@@ -1,4 +1,5 @@
 -- "eight connections at once": each place can be taken, and a ninth opening is answered 13.
+use Rattle.std.specs.Prelude.{Some}
 use Prim.Native.Nat.{ℕ, zero, suc, ◌+◌, ◌<◌}
 use native.Mathlib.Omega.{arith}
 use mathlib.Core.List.{List, [], ◌∷◌, ◌++◌}
@@ -9,7 +10,6 @@ use Rattle.profile.specs.Profile.{within}
 use Rattle.settings.specs.Settings.{allowed_by}
 use Rattle.settings.specs.declared.Settings.{Settings}
 use Rattle.connection.specs.Calls.{opening_as}
-use Rattle.table.specs.declared.Place.TheVariants.{At}
 use Rattle.table.specs.Table.{places, empty, free_of, is_used, uses_either, reserved}
 use Rattle.table.specs.Calls.{opens}
 use Rattle.table_runs.specs.Runs.{Call, run}
@@ -25,7 +25,7 @@ openings zero = []
 openings (suc n) = openings n ++ (open' (unit_at n) ∷ [])
 
 -- the next takes the next place
-pub each : (limit p : ℕ) → p < places → (opens (run limit empty (openings p)) (unit_at p)).place ≡ At p
+pub each : (limit p : ℕ) → p < places → (opens (run limit empty (openings p)) (unit_at p)).place ≡ Some p
 unfolding opens free_of is_used uses_either reserved allowed_by within tenths_of bad_block opening_as
 each limit zero h = refl
 each limit (suc zero) h = refl

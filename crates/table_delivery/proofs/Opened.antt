@@ -1,4 +1,5 @@
 -- The claim speaks of something: wherever a table takes an opening, the place and the control unit come to be fresh.
+use Rattle.std.specs.Prelude.{Some}
 use Prim.Native.Nat.{ℕ, ◌+◌, ◌<◌}
 use native.Mathlib.Omega.{arith}
 use mathlib.Core.Bool.{Bool, true, false}
@@ -26,7 +27,6 @@ use Rattle.unit.specs.Record.{phase_replied, phase_open, settable, closed_with, 
 use Rattle.unit.specs.Calls.{arrived as unit_arrived, due_of as unit_due}
 use Rattle.unit.proofs.Rules.{settable-exactly}
 use Rattle.table.specs.declared.Table.{Table}
-use Rattle.table.specs.declared.Place.TheVariants.{At}
 use Rattle.table.specs.Table.{places, empty, free_of, uses_either, is_used, reserved}
 use Rattle.table.specs.Calls.{opens}
 use Rattle.table.proofs.Rules.{open-0-exactly, open-named}
@@ -44,7 +44,7 @@ use Rattle.table_delivery.proofs.Lawful.{with-tests}
 use Rattle.table_delivery.proofs.Places.{given_there, left_there, due-there, owned, arrive-there}
 
 -- an empty table has every place closed, and uses no unit and no ID
-empty-takes : (s : Settings) → allowed s ≡ true → reserved s.receive ≡ false → ((opens empty s).told.said.number ≡ 0) × ((opens empty s).place ≡ At 0)
+empty-takes : (s : Settings) → allowed s ≡ true → reserved s.receive ≡ false → ((opens empty s).told.said.number ≡ 0) × ((opens empty s).place ≡ Some 0)
 unfolding opens free_of is_used uses_either opening_as
 empty-takes s a free = rw (free, a) (refl, refl)
 
@@ -152,7 +152,7 @@ module _ (limit p : ℕ) (within : p < places) (s t : Settings) (a : allowed s �
       }
 
   -- C0 and D0, A0 and A1: both are open
-  both-open : (x : Past) → (opens (table_of limit x) s).place ≡ At p → (room room' : ℕ) → (let ask = asked (place_end limit p) (unit_end limit) room room' in
+  both-open : (x : Past) → (opens (table_of limit x) s).place ≡ Some p → (room room' : ℕ) → (let ask = asked (place_end limit p) (unit_end limit) room room' in
       Stand limit p open_record open_unit (ask (ask (called x (open' s), closed_with t 0xD0))))
   both-open x here room room' =
       let u = closed_with t 0xD0 in
@@ -167,7 +167,7 @@ module _ (limit p : ℕ) (within : p < places) (s t : Settings) (a : allowed s �
       (a1-arrives limit tp20 s t.receive (own_fields t) far.least far.most s.t_e room)
 
 -- what is taken is allowed
-taken-allowed : (t : Table) (s : Settings) (p : ℕ) → (opens t s).place ≡ At p → allowed s ≡ true
+taken-allowed : (t : Table) (s : Settings) (p : ℕ) → (opens t s).place ≡ Some p → allowed s ≡ true
 taken-allowed t s p here = (allowed-exactly tp20 s).1 ((open-0-exactly t s).0 (ap (λ r. r.said.number) (open-named t s p here).told)).1.ranges
 
 -- the record there, and the two

@@ -1,12 +1,11 @@
 -- 02, 7: the claim speaks of every connection that a table opens to a control unit, whatever goes to the other places meanwhile.
 -- proofs/Opened.antt proves it.
-use Rattle.std.specs.Prelude.{ℕ, ◌<◌, true, false, List, [], ◌≡◌, length}
+use Rattle.std.specs.Prelude.{ℕ, ◌<◌, true, false, List, [], ◌≡◌, length, Some}
 use Rattle.settings.specs.Settings.{allowed}
 use Rattle.settings.specs.declared.Settings.{Settings}
 use Rattle.settings.specs.Agreed.{own_fields}
 use Rattle.connection.specs.Record.{requesting, agreeing, opened}
 use Rattle.unit.specs.Record.{settable, closed_with}
-use Rattle.table.specs.declared.Place.TheVariants.{At}
 use Rattle.table.specs.Table.{places, empty, reserved}
 use Rattle.table.specs.Calls.{opens}
 use Rattle.table_runs.specs.Runs.Call.{open'}
@@ -48,9 +47,9 @@ opened_pair limit p x s t b b' =
 -- an empty table takes at place 0 every opening that 01 and 02 allow;
 -- and wherever a table takes one, whatever was called before, to a unit that is set to it: the record there is open, and the place and the unit are fresh
 pub record OpeningLeadsToFresh : Type 0 where
-  pub takes : (s : Settings) → allowed s ≡ true → reserved s.receive ≡ false → ((opens empty s).told.said.number ≡ 0) × ((opens empty s).place ≡ At 0)
+  pub takes : (s : Settings) → allowed s ≡ true → reserved s.receive ≡ false → ((opens empty s).told.said.number ≡ 0) × ((opens empty s).place ≡ Some 0)
   pub fresh :
-      (limit p : ℕ) → p < places → (x : Past) (s t : Settings) → (opens (table_of limit x) s).place ≡ At p
+      (limit p : ℕ) → p < places → (x : Past) (s t : Settings) → (opens (table_of limit x) s).place ≡ Some p
       → settable t 0xD0 ≡ true → s.unit ≡ t.unit → (b b' : List ℕ) (try : Try)
       → (let pair = opened_pair limit p x s t b b' try in
       (record_of limit p pair.near.state ≡ opened (agreeing (requesting s) t.receive) (own_fields t)) × Fresh pair)

@@ -1,6 +1,5 @@
 -- 02, 7: isolation, sentence by sentence. Two runs from an empty table, side by side. proofs/Isolation.antt proves it.
-use Rattle.std.specs.Prelude.{ℕ, ◌≤◌, ◌<◌, Bool, false, ◌≡◌, ◌≢◌, ◌⊎◌, List, [], ◌∷◌, eqb, length, get_or, set, replicate, take as front, if◌then◌else◌}
-use Rattle.std.proofs.Math.Option.{Option, none, some}
+use Rattle.std.specs.Prelude.{ℕ, ◌≤◌, ◌<◌, Bool, false, ◌≡◌, ◌≢◌, ◌⊎◌, List, [], ◌∷◌, eqb, length, get_or, set, replicate, take as front, if◌then◌else◌, Option, Some, None}
 use Rattle.settings.specs.declared.Settings.{Settings}
 use Rattle.open_end.specs.declared.answers.Told.{Told}
 use Rattle.open_end.specs.declared.Frame.{Frame}
@@ -9,8 +8,6 @@ use Rattle.connection.specs.declared.Connection.{Connection}
 use Rattle.connection.specs.Record.{is_closed, closed_record}
 use Rattle.connection.specs.Calls.{buffered}
 use Rattle.table.specs.declared.Table.{Table}
-use Rattle.table.specs.declared.Place.{Place}
-use Rattle.table.specs.declared.Place.TheVariants.{Nowhere}
 use Rattle.table.specs.Table.{places, empty, at, owner_of}
 use Rattle.table.specs.Calls.{opens, arrives, buffers, elapses, hands, sends, takes, closes}
 use Rattle.table_runs.specs.Runs.{Call, step, run, goes_to}
@@ -35,7 +32,7 @@ buffer_at d p = get_or d.lent p []
 -- A call's room is any number here; in a call of 01 it is the length of the lent buffer
 pub record Reply : Type 0 where
   pub told : Told
-  pub place : Place
+  pub place : Option ℕ
   pub padded : Bool
   pub given : Bool
   pub frame : Frame
@@ -44,7 +41,7 @@ pub record Reply : Type 0 where
 
 -- an answer that carries nothing else
 abbrev pub plainly : Told → Reply
-plainly a = record { told = a; place = Nowhere; padded = false; given = false; frame = no_frame; flags = 0; message = [] }
+plainly a = record { told = a; place = None; padded = false; given = false; frame = no_frame; flags = 0; message = [] }
 
 -- ---- "Take two runs from an empty table"
 
@@ -84,7 +81,7 @@ NoOpening (close p) = Unit {0}
 
 -- the unit and the receive ID that a record uses
 abbrev pub usage : Connection → Option (ℕ × ℕ)
-usage c = if is_closed c then none else some (c.settings.unit, c.settings.receive)
+usage c = if is_closed c then None else Some (c.settings.unit, c.settings.receive)
 
 -- "the same places, units and receive IDs in use"
 abbrev pub SameInUse : Desk → Desk → Type 0
@@ -116,11 +113,11 @@ module _ (limit : ℕ) where
   reply d (time p n) = plainly (elapses d.table p n).told
   reply d (due p m) =
       (let r = hands d.table p m in
-      record { told = r.told; place = Nowhere; padded = false; given = r.given; frame = r.frame; flags = 0; message = [] })
+      record { told = r.told; place = None; padded = false; given = r.given; frame = r.frame; flags = 0; message = [] })
   reply d (send p n) = plainly (sends limit d.table p n).told
   reply d (take p room) =
       (let r = takes d.table p room in
-      record { told = r.told; place = Nowhere; padded = false; given = false; frame = no_frame; flags = r.flags; message = front r.len (buffer_at d p) })
+      record { told = r.told; place = None; padded = false; given = false; frame = no_frame; flags = r.flags; message = front r.len (buffer_at d p) })
   reply d (close p) = plainly (closes d.table p).told
 
   -- the lent buffers after it: a frame's owner may have written to its own

@@ -1,12 +1,10 @@
 -- 02, 7: lists of calls to a table, and what holds after every list from the empty one. proofs/Runs.antt proves it.
-use Rattle.std.specs.Prelude.{ℕ, ◌≤◌, ◌<◌, true, false, ◌≡◌, ◌≢◌, List, [], ◌∷◌, length}
+use Rattle.std.specs.Prelude.{ℕ, ◌≤◌, ◌<◌, true, false, ◌≡◌, ◌≢◌, List, [], ◌∷◌, length, Option, Some, None}
 use Rattle.profile.specs.Profile.{tp20}
 use Rattle.settings.specs.declared.Settings.{Settings}
 use Rattle.connection.specs.declared.Connection.{Connection}
 use Rattle.connection.specs.Record.{is_closed, is_requesting, hears}
 use Rattle.table.specs.declared.Table.{Table}
-use Rattle.table.specs.declared.Place.{Place}
-use Rattle.table.specs.declared.Place.TheVariants.{Nowhere, At}
 use Rattle.table.specs.Table.{places, empty, at, owner_of, reserved}
 use Rattle.table.specs.Calls.{opens, arrives, elapses, hands, sends, takes, closes}
 
@@ -40,9 +38,9 @@ run limit t (c ∷ cs) = run limit (step limit t c) cs
 -- ---- a call to one place leaves every other place as it was
 
 -- the number of a place, and 8 for none
-abbrev pub number_of : Place → ℕ
-number_of Nowhere = places
-number_of (At p) = p
+abbrev pub number_of : Option ℕ → ℕ
+number_of None = places
+number_of (Some p) = p
 
 -- the place that a call goes to: the one that an opening takes, a frame's owner, or the one that is named
 abbrev pub goes_to : Table → Call → ℕ

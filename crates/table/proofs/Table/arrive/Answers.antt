@@ -1,32 +1,16 @@
-use borrow.Author.Tests.{le-leb, lt-leb}
-use borrow.Author.Rules.{rules}
+use Rattle.table.specs.Table.{owner_of}
 use Rattle.table.specs.Calls.{arrives, buffers}
+use Rattle.table.proofs.Found.{named-is, named-none}
 use Rattle.table.proofs.Table.arrive.Goals as goal
 
-pub owner_of-p-requires : goal.owner_of-p-requires
+pub returns-in_default : goal.returns-in_default
 unfolding arrives buffers
-owner_of-p-requires c = search rules
-
-pub tell-requires : goal.tell-requires
-unfolding arrives buffers
-tell-requires c = search rules
-
-pub returns-then-p-ge-PLACES : goal.returns-then-p-ge-PLACES
-unfolding arrives buffers
-returns-then-p-ge-PLACES c = record { value = rw (c.tell.ensures, ← c.owner_of-p.ensures, le-leb 8 _ c.if-p-ge-PLACES.true); buffer_after = rw (← c.owner_of-p.ensures, le-leb 8 _ c.if-p-ge-PLACES.true) }
-
-pub arrive-r-requires : goal.arrive-r-requires
-unfolding arrives buffers
-arrive-r-requires c = search rules
-
-pub named-requires : goal.named-requires
-unfolding arrives buffers
-named-requires c = search rules
-
-pub shape_of-buffer : goal.shape_of-buffer
-unfolding arrives buffers
-shape_of-buffer c = search rules
+returns-in_default c =
+    let none = named-none (owner_of c.args.self c.args.id) c.in_default.ensures in
+    record { value = rw (c.tell.ensures, none); buffer_after = rw none }
 
 pub returns : goal.returns
 unfolding arrives buffers
-returns c = record { value = rw (c.named.ensures, ← c.owner_of-p.ensures, lt-leb 8 _ c.if-p-ge-PLACES.false, c.arrive-r.ensures.value); buffer_after = rw (← c.owner_of-p.ensures, lt-leb 8 _ c.if-p-ge-PLACES.false) c.arrive-r.ensures.buffer_after }
+returns c =
+    let owner = named-is (owner_of c.args.self c.args.id) c.in-Some.p c.in-Some.ensures in
+    record { value = rw (owner.0, c.arrive-r.ensures.value, ← owner.1); buffer_after = rw (owner.0, ← owner.1) c.arrive-r.ensures.buffer_after }

@@ -1,20 +1,12 @@
-use borrow.Author.Tests.{le-leb, lt-leb}
-use borrow.Author.Rules.{rules}
+use Rattle.std.proofs.Common.{rules}
 use Rattle.table.specs.Calls.{closes}
+use Rattle.table.proofs.Found.{got, got-none}
 use Rattle.table.proofs.Table.close.Goals as goal
 
-pub nowhere-requires : goal.nowhere-requires
+pub returns-in_default : goal.returns-in_default
 unfolding closes
-nowhere-requires c = search rules
-
-pub returns-then-p-ge-PLACES : goal.returns-then-p-ge-PLACES
-unfolding closes
-returns-then-p-ge-PLACES c = rw (c.nowhere.ensures, le-leb 8 _ c.if-p-ge-PLACES.true)
-
-pub close-r-requires : goal.close-r-requires
-unfolding closes
-close-r-requires c = search rules
+returns-in_default c = rw (c.nowhere.ensures, got-none c.args.self c.args.place (search rules) c.in_default.ensures.lookup)
 
 pub returns : goal.returns
 unfolding closes
-returns c = rw (lt-leb 8 _ c.if-p-ge-PLACES.false, c.close-r.ensures)
+returns c = let here = got c.args.self c.args.place (search rules) c.in-Some.c c.in-Some.ensures.lookup in rw (here.0, c.close-r.ensures, here.1)

@@ -1,24 +1,12 @@
-use borrow.Author.Tests.{le-leb, lt-leb}
-use borrow.Author.Rules.{rules}
+use Rattle.std.proofs.Common.{rules}
 use Rattle.table.specs.Calls.{hands}
+use Rattle.table.proofs.Found.{got, got-none}
 use Rattle.table.proofs.Table.due.Goals as goal
 
-pub tell-requires : goal.tell-requires
+pub returns-in_default : goal.returns-in_default
 unfolding hands
-tell-requires c = search rules
-
-pub no_frame-requires : goal.no_frame-requires
-unfolding hands
-no_frame-requires c = search rules
-
-pub returns-then-p-ge-PLACES : goal.returns-then-p-ge-PLACES
-unfolding hands
-returns-then-p-ge-PLACES c = rw (c.no_frame.ensures, c.tell.ensures, le-leb 8 _ c.if-p-ge-PLACES.true)
-
-pub due-d-requires : goal.due-d-requires
-unfolding hands
-due-d-requires c = search rules
+returns-in_default c = rw (c.no_frame.ensures, c.tell.ensures, got-none c.args.self c.args.place (search rules) c.in_default.ensures.lookup)
 
 pub returns : goal.returns
 unfolding hands
-returns c = rw (lt-leb 8 _ c.if-p-ge-PLACES.false, c.due-d.ensures)
+returns c = let here = got c.args.self c.args.place (search rules) c.in-Some.c c.in-Some.ensures.lookup in rw (here.0, c.due-d.ensures, here.1)

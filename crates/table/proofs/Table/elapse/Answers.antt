@@ -1,20 +1,12 @@
-use borrow.Author.Tests.{le-leb, lt-leb}
-use borrow.Author.Rules.{rules}
+use Rattle.std.proofs.Common.{rules}
 use Rattle.table.specs.Calls.{elapses}
+use Rattle.table.proofs.Found.{got, got-none}
 use Rattle.table.proofs.Table.elapse.Goals as goal
 
-pub nowhere-requires : goal.nowhere-requires
+pub returns-in_default : goal.returns-in_default
 unfolding elapses
-nowhere-requires c = search rules
-
-pub returns-then-p-ge-PLACES : goal.returns-then-p-ge-PLACES
-unfolding elapses
-returns-then-p-ge-PLACES c = rw (c.nowhere.ensures, le-leb 8 _ c.if-p-ge-PLACES.true)
-
-pub elapse-r-requires : goal.elapse-r-requires
-unfolding elapses
-elapse-r-requires c = search rules
+returns-in_default c = rw (c.nowhere.ensures, got-none c.args.self c.args.place (search rules) c.in_default.ensures.lookup)
 
 pub returns : goal.returns
 unfolding elapses
-returns c = rw (lt-leb 8 _ c.if-p-ge-PLACES.false, c.elapse-r.ensures)
+returns c = let here = got c.args.self c.args.place (search rules) c.in-Some.c c.in-Some.ensures.lookup in rw (here.0, c.elapse-r.ensures, here.1)

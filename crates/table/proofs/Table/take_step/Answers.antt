@@ -1,20 +1,12 @@
-use borrow.Author.Tests.{le-leb, lt-leb}
-use borrow.Author.Rules.{rules}
+use Rattle.std.proofs.Common.{rules}
 use Rattle.table.specs.Calls.{takes}
+use Rattle.table.proofs.Found.{got, got-none}
 use Rattle.table.proofs.Table.take_step.Goals as goal
 
-pub tell-requires : goal.tell-requires
+pub returns-in_default : goal.returns-in_default
 unfolding takes
-tell-requires c = search rules
-
-pub returns-then-p-ge-PLACES : goal.returns-then-p-ge-PLACES
-unfolding takes
-returns-then-p-ge-PLACES c = rw (c.tell.ensures, le-leb 8 _ c.if-p-ge-PLACES.true)
-
-pub take_step-t-requires : goal.take_step-t-requires
-unfolding takes
-take_step-t-requires c = search rules
+returns-in_default c = rw (c.tell.ensures, got-none c.args.self c.args.place (search rules) c.in_default.ensures.lookup)
 
 pub returns : goal.returns
 unfolding takes
-returns c = rw (lt-leb 8 _ c.if-p-ge-PLACES.false, c.take_step-t.ensures)
+returns c = let here = got c.args.self c.args.place (search rules) c.in-Some.c c.in-Some.ensures.lookup in rw (here.0, c.take_step-t.ensures, here.1)
