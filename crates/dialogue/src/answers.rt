@@ -158,15 +158,16 @@ pub(crate) fn each(text: &mut [u8], said: [Said; 8]) -> usize
 }
 
 // A place, and - for none.
-#[tactic(auto, using(laws::proofs::Branches::branches), unfolding(crate::specs::Answers::owner_of))]
-pub(crate) fn owner(text: &mut [u8], named: bool, place: u8) -> usize
-    ensures { Writes text.old 0 (owner_of named place) text.new result }
+pub(crate) fn owner(text: &mut [u8], place: Option<u8>) -> usize
+    ensures { Writes text.old 0 (owner_of place) text.new result }
 {
-    if named {
-        let at = writing::decimal(text, 0, place as u64);
-        return writing::byte(text, at, b'\n');
+    match place {
+        Some(place) => {
+            let at = writing::decimal(text, 0, place as u64);
+            writing::byte(text, at, b'\n')
+        }
+        None => writing::bytes(text, 0, b"-\n"),
     }
-    writing::bytes(text, 0, b"-\n")
 }
 
 // The answer to a line that is no call.

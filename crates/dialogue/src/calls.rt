@@ -1,10 +1,9 @@
 // The calls that a line can ask for.
 ghost use Rattle.std.specs.Prelude.{◌≡◌, length};
-ghost use Rattle.dialogue.specs.Calls.{alone_of, time_of, room_of, due_of, send_of, frame_with, frame_of, followed_of, followed_into, call_of, call_into};
+ghost use Rattle.dialogue.specs.Calls.{alone_of, time_of, room_of, due_of, send_of, frame_of, followed_of, followed_into, call_of, call_into};
 ghost use Rattle.dialogue.specs.Words.{word_at, behind_word, only_number, id_read, octets_read, octets_into};
 
 use crate::words::{behind_word, can_id, letters, octets, only_number, word};
-use text::reading::{Bytes, Number};
 
 // What a line asks for. Bytes that it gives stand elsewhere, and here is their count.
 #[derive(Clone, Copy)]
@@ -131,9 +130,8 @@ fn time(words: &[u8]) -> Call
     ensures { result ≡ time_of (only_number words.now) }
 {
     match only_number(words) {
-        Number::Value(n) => Call::Time(n),
-        Number::TooLarge => Call::Wrong,
-        Number::Bad => Call::Wrong,
+        Ok(n) => Call::Time(n),
+        Err(_) => Call::Wrong,
     }
 }
 
@@ -142,44 +140,24 @@ fn room(words: &[u8]) -> Call
     ensures { result ≡ room_of (only_number words.now) }
 {
     match only_number(words) {
-        Number::Value(n) => {
-            if MOST_ROOM < n {
-                return Call::Wrong;
-            }
-            Call::Room(n as usize)
-        }
-        Number::TooLarge => Call::Wrong,
-        Number::Bad => Call::Wrong,
+        Ok(n) if n <= MOST_ROOM => Call::Room(n as usize),
+        _ => Call::Wrong,
     }
 }
 
+#[tactic(auto, using(laws::proofs::Branches::branches), unfolding(crate::specs::Calls::frame_of))]
 fn frame(words: &[u8], bytes: &mut [u8]) -> Call
     ensures value { result ≡ frame_of (id_read (word_at words.now 0)) (octets_read (length bytes.old) (behind_word words.now)) }
     ensures bytes_after { bytes.new ≡ octets_into bytes.old (behind_word words.now) }
 {
     let id = can_id(word(words));
     let count = octets(behind_word(words), bytes);
-    framed(id, count)
-}
-
-#[tactic(auto, using(laws::proofs::Branches::branches), unfolding(crate::specs::Calls::frame_of))]
-fn framed(id: Number, bytes: Bytes) -> Call
-    ensures { result ≡ frame_of id bytes }
-{
-    match id {
-        Number::Value(n) => with_id((n % 65536) as u16, bytes),
-        Number::TooLarge => Call::Wrong,
-        Number::Bad => Call::Wrong,
-    }
-}
-
-fn with_id(id: u16, bytes: Bytes) -> Call
-    ensures { result ≡ frame_with id bytes }
-{
-    match bytes {
-        Bytes::Count(count) => Call::Frame { id, count },
-        Bytes::TooMany => Call::Wrong,
-        Bytes::Bad => Call::Wrong,
+    match (id, count) {
+        (Ok(id), Ok(count)) => Call::Frame {
+            id: (id % 65536) as u16,
+            count,
+        },
+        _ => Call::Wrong,
     }
 }
 
@@ -189,9 +167,8 @@ fn due(words: &[u8], bytes: &mut [u8]) -> Call
     ensures bytes_after { bytes.new ≡ octets_into bytes.old words.now }
 {
     match octets(words, bytes) {
-        Bytes::Count(n) => Call::DueOf(n),
-        Bytes::TooMany => Call::Wrong,
-        Bytes::Bad => Call::Wrong,
+        Ok(n) => Call::DueOf(n),
+        Err(_) => Call::Wrong,
     }
 }
 
@@ -201,8 +178,7 @@ fn send(words: &[u8], bytes: &mut [u8]) -> Call
     ensures bytes_after { bytes.new ≡ octets_into bytes.old words.now }
 {
     match octets(words, bytes) {
-        Bytes::Count(n) => Call::Send(n),
-        Bytes::TooMany => Call::Wrong,
-        Bytes::Bad => Call::Wrong,
+        Ok(n) => Call::Send(n),
+        Err(_) => Call::Wrong,
     }
 }

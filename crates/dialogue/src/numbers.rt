@@ -4,7 +4,7 @@ ghost use Rattle.dialogue.specs.Numbers.{no_numbers, with_number, with_beyond, n
 
 use settings::Settings;
 use text::reading;
-use text::reading::Number;
+use text::reading::NumberError;
 
 // Numbers that are read one after another.
 #[derive(Clone, Copy)]
@@ -24,13 +24,6 @@ pub struct Numbers {
 pub struct Given {
     pub settings: Settings,
     pub numbers: Numbers,
-}
-
-// The settings that an opening asks for.
-#[derive(Clone, Copy)]
-pub enum Opening {
-    Wrong,
-    With(Settings),
 }
 
 impl Numbers {
@@ -59,11 +52,11 @@ impl Numbers {
 
     // A word was read, up to a place.
     #[tactic(auto, using(laws::proofs::Branches::branches), unfolding(crate::specs::Numbers::with_number))]
-    fn with(self, at: usize, most: u64, number: Number) -> Numbers
+    fn with(self, at: usize, most: u64, number: Result<u64, NumberError>) -> Numbers
         ensures { result ≡ with_number self at most number }
     {
         match number {
-            Number::Value(n) => {
+            Ok(n) => {
                 if most < n {
                     return self.with_beyond(at);
                 }
@@ -74,8 +67,8 @@ impl Numbers {
                     value: n,
                 }
             }
-            Number::TooLarge => self.with_beyond(at),
-            Number::Bad => Numbers {
+            Err(NumberError::TooLarge) => self.with_beyond(at),
+            Err(NumberError::Bad) => Numbers {
                 at,
                 bad: true,
                 beyond: self.beyond,
@@ -141,8 +134,9 @@ pub fn settings(words: &[u8]) -> Given
     }
 }
 
-// The settings that an opening asks for: the defaults where no word is given, and else those that all the words give.
-pub fn read_opening(words: &[u8]) -> Opening
+// The settings that an opening asks for: the defaults where no word is given, and else those that all the words give, if they
+// do.
+pub fn read_opening(words: &[u8]) -> Option<Settings>
     ensures { result ≡ opening_of words.now }
 {
     opening_with(Settings::DEFAULT, words)
@@ -150,19 +144,19 @@ pub fn read_opening(words: &[u8]) -> Opening
 
 // The same with other defaults.
 #[tactic(auto, using(laws::proofs::Branches::branches), unfolding(crate::specs::Numbers::opening_with))]
-pub(crate) fn opening_with(defaults: Settings, words: &[u8]) -> Opening
+pub(crate) fn opening_with(defaults: Settings, words: &[u8]) -> Option<Settings>
     ensures { result ≡ opening_with defaults words.now }
 {
     if words.len() == 0 {
-        return Opening::With(defaults);
+        return Some(defaults);
     }
     let given = settings(words);
     let settings = given.settings;
     let read = given.numbers;
     if read.are_all(words) {
-        return Opening::With(settings);
+        return Some(settings);
     }
-    Opening::Wrong
+    None
 }
 
 // Settings that every record refuses, where a number is too large: a receive ID has eleven bits.

@@ -132,13 +132,12 @@ impl Session {
     pub fn tell_owner<R: Print + Eprint>(
         self,
         rt: &R,
-        named: bool,
-        place: u8,
+        place: Option<u8>,
         text: &mut [u8],
     ) -> Session
-        ensures { Answers self (owner_of named place) text.old text.new result }
+        ensures { Answers self (owner_of place) text.old text.new result }
     {
-        let end = answers::owner(text, named, place);
+        let end = answers::owner(text, place);
         self.say(rt, shown(text, end))
     }
 

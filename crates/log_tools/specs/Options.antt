@@ -1,10 +1,9 @@
 -- The words that a tool is started with: `[--room N] [--chunk N] [FILE]`, and `[--places N]` for a tool that makes a list.
-use Rattle.std.specs.Prelude.{ℕ, Bool, true, false, not, ◌&&◌, List, [], ◌∷◌, length, take, get_or, leb, eqb, if◌then◌else◌}
+use Rattle.std.specs.Prelude.{ℕ, Bool, true, false, not, ◌&&◌, List, [], ◌∷◌, Result, Ok, Err, length, take, get_or, leb, eqb, if◌then◌else◌}
 use Rattle.laws.specs.Characters.{ascii}
 use Rattle.telegram.specs.Cutting.{longest}
 use Rattle.text.specs.Numbers.{number_of}
-use Rattle.text.specs.declared.reading.Number.{Number}
-use Rattle.text.specs.declared.reading.Number.TheVariants.{Value, TooLarge, Bad}
+use Rattle.text.specs.declared.reading.NumberError.{NumberError}
 use Rattle.log_tools.specs.declared.options.Options.{Options}
 
 -- two texts that are alike
@@ -131,22 +130,19 @@ named o place = record {
 }
 
 -- a room of 0 to 4095 bytes
-unfoldable pub on_room : Options → (place : ℕ) → Number → Options
-on_room o place (Value n) = if leb n 4095 then roomed o n else wrong o 3 place
-on_room o place TooLarge = wrong o 3 place
-on_room o place Bad = wrong o 3 place
+unfoldable pub on_room : Options → (place : ℕ) → Result ℕ NumberError → Options
+on_room o place (Ok n) = if leb n 4095 then roomed o n else wrong o 3 place
+on_room o place (Err e) = wrong o 3 place
 
 -- chunks of 1 to 65536 characters
-unfoldable pub on_chunk : Options → (place : ℕ) → Number → Options
-on_chunk o place (Value n) = if leb 1 n && leb n 65536 then chunked o n else wrong o 4 place
-on_chunk o place TooLarge = wrong o 4 place
-on_chunk o place Bad = wrong o 4 place
+unfoldable pub on_chunk : Options → (place : ℕ) → Result ℕ NumberError → Options
+on_chunk o place (Ok n) = if leb 1 n && leb n 65536 then chunked o n else wrong o 4 place
+on_chunk o place (Err e) = wrong o 4 place
 
 -- 0 to 4096 places
-unfoldable pub on_places : Options → (place : ℕ) → Number → Options
-on_places o place (Value n) = if leb n 4096 then placed o n else wrong o 6 place
-on_places o place TooLarge = wrong o 6 place
-on_places o place Bad = wrong o 6 place
+unfoldable pub on_places : Options → (place : ℕ) → Result ℕ NumberError → Options
+on_places o place (Ok n) = if leb n 4096 then placed o n else wrong o 6 place
+on_places o place (Err e) = wrong o 6 place
 
 -- each option at most once; that of places for a tool that makes a list
 unfoldable pub on_option : Options → (place : ℕ) → (word : List ℕ) → Options

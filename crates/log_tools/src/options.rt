@@ -5,7 +5,7 @@ ghost use Rattle.std.specs.Prelude.{◌≡◌};
 ghost use Rattle.log_tools.specs.Options.{same, is_option, fresh, wrong, awaiting, roomed, chunked, placed, named, on_room, on_chunk, on_places, on_option, word_taken, held_taken, words_ended};
 
 use telegram::cutting::LONGEST;
-use text::reading::{Number, decimal, part};
+use text::reading::{NumberError, decimal, part};
 
 // What the words came to.
 #[derive(Clone, Copy)]
@@ -206,50 +206,32 @@ impl Options {
     }
 
     #[tactic(auto, using(laws::proofs::Branches::branches), unfolding(crate::specs::Options::on_room))]
-    fn on_room(self, place: usize, number: Number) -> Options
+    fn on_room(self, place: usize, number: Result<u64, NumberError>) -> Options
         ensures { result ≡ on_room self place number }
     {
         match number {
-            Number::Value(n) => {
-                if n <= 4095 {
-                    return self.roomed(n as usize);
-                }
-                self.wrong(NO_ROOM, place)
-            }
-            Number::TooLarge => self.wrong(NO_ROOM, place),
-            Number::Bad => self.wrong(NO_ROOM, place),
+            Ok(n) if n <= 4095 => self.roomed(n as usize),
+            _ => self.wrong(NO_ROOM, place),
         }
     }
 
     #[tactic(auto, using(laws::proofs::Branches::branches), unfolding(crate::specs::Options::on_chunk))]
-    fn on_chunk(self, place: usize, number: Number) -> Options
+    fn on_chunk(self, place: usize, number: Result<u64, NumberError>) -> Options
         ensures { result ≡ on_chunk self place number }
     {
         match number {
-            Number::Value(n) => {
-                if (1 <= n) & (n <= 65536) {
-                    return self.chunked(n as usize);
-                }
-                self.wrong(NO_CHUNK, place)
-            }
-            Number::TooLarge => self.wrong(NO_CHUNK, place),
-            Number::Bad => self.wrong(NO_CHUNK, place),
+            Ok(n) if (1 <= n) & (n <= 65536) => self.chunked(n as usize),
+            _ => self.wrong(NO_CHUNK, place),
         }
     }
 
     #[tactic(auto, using(laws::proofs::Branches::branches), unfolding(crate::specs::Options::on_places))]
-    fn on_places(self, place: usize, number: Number) -> Options
+    fn on_places(self, place: usize, number: Result<u64, NumberError>) -> Options
         ensures { result ≡ on_places self place number }
     {
         match number {
-            Number::Value(n) => {
-                if n <= 4096 {
-                    return self.placed(n as usize);
-                }
-                self.wrong(NO_PLACES, place)
-            }
-            Number::TooLarge => self.wrong(NO_PLACES, place),
-            Number::Bad => self.wrong(NO_PLACES, place),
+            Ok(n) if n <= 4096 => self.placed(n as usize),
+            _ => self.wrong(NO_PLACES, place),
         }
     }
 

@@ -11,9 +11,10 @@ use mathlib.Core.Path.{◌≡◌, refl, sym, ◌∙◌}
 use lib.ListN.{length, drop, get_or, set, drop_of_length-le, length-set}
 use lib.Seq.{drop-cons}
 use borrow.Author.Tests.{le-leb, lt-leb}
+use Rattle.std.specs.Prelude.{Ok, Err}
 use Rattle.text.specs.Words.{is_blank}
 use Rattle.text.specs.Pairs.{is_pair, byte_of, pairs_read, pairs_into}
-use Rattle.text.specs.declared.reading.Bytes.TheVariants.{Count, TooMany, Bad}
+use Rattle.text.specs.declared.reading.PairsError.TheVariants.{TooMany, Bad}
 
 abbrev pub Reading : List ℕ → List ℕ → List ℕ → ℕ → ℕ → Type 0
 Reading s b₀ b n i =
@@ -47,22 +48,22 @@ skip-into b n c (d ∷ t) e = rw e
 module _ (s : List ℕ) (i : ℕ) where
   -- the answer
   module _ (room n : ℕ) (read : pairs_read room 0 s ≡ pairs_read room n (drop i s)) where
-    pub ends : length s ≤ i → Count n ≡ pairs_read room 0 s
+    pub ends : length s ≤ i → Ok n ≡ pairs_read room 0 s
     unfolding pairs_read
     ends h = sym (read ∙ rw (drop_of_length-le s h))
 
-    pub lone : i < length s → length s - i < 2 → is_blank (get_or s i 0) ≡ false → Bad ≡ pairs_read room 0 s
+    pub lone : i < length s → length s - i < 2 → is_blank (get_or s i 0) ≡ false → Err Bad ≡ pairs_read room 0 s
     unfolding pairs_read
     lone h k e = sym (read ∙ rw (one s i h k, e))
 
-    pub bad : 2 ≤ length s - i → is_blank (get_or s i 0) ≡ false → is_pair (get_or s i 0) (get_or s (i + 1) 0) ≡ false → Bad ≡ pairs_read room 0 s
+    pub bad : 2 ≤ length s - i → is_blank (get_or s i 0) ≡ false → is_pair (get_or s i 0) (get_or s (i + 1) 0) ≡ false → Err Bad ≡ pairs_read room 0 s
     unfolding pairs_read
     bad h e t = sym (read ∙ rw (two s i h, e, t))
 
   -- the same, the room being that of the bytes as they are now
   module _ (b₀ b : List ℕ) (n : ℕ) (read : pairs_read (length b₀) 0 s ≡ pairs_read (length b₀) n (drop i s)) (long : length b ≡ length b₀)
       (h : 2 ≤ length s - i) (e : is_blank (get_or s i 0) ≡ false) (p : is_pair (get_or s i 0) (get_or s (i + 1) 0) ≡ true) where
-    pub no_room : length b ≤ n → TooMany ≡ pairs_read (length b₀) 0 s
+    pub no_room : length b ≤ n → Err TooMany ≡ pairs_read (length b₀) 0 s
     unfolding pairs_read
     no_room t = let k : length b₀ ≤ n = omega arith in sym (read ∙ rw (two s i h, e, p, le-leb (length b₀) n k))
 

@@ -4,22 +4,21 @@ ghost use Rattle.text.specs.Numbers.{digit_of, is_digit, number_from, number_of}
 ghost use Rattle.text.specs.Pairs.{is_pair, byte_of, pairs_read, pairs_into};
 ghost use Rattle.text.specs.Words.{is_blank, belongs, run_of, word_from};
 
-// What a text stands for as a number.
-#[derive(Clone, Copy)]
-pub enum Number {
-    Value(u64),
+// Why a text stands for no number of 64 bits.
+#[derive(Clone, Copy, Debug, PartialEq, Eq)]
+pub enum NumberError {
     // A number that 64 bits do not hold.
     TooLarge,
+    // No number.
     Bad,
 }
 
-// What a text gives as bytes.
-#[derive(Clone, Copy)]
-pub enum Bytes {
-    // So many bytes.
-    Count(usize),
+// Why a text gives no bytes.
+#[derive(Clone, Copy, Debug, PartialEq, Eq)]
+pub enum PairsError {
     // More bytes than there is room for.
     TooMany,
+    // No pairs of digits.
     Bad,
 }
 
@@ -57,14 +56,14 @@ pub fn digit(c: u8) -> u8
 }
 
 // A decimal number, of any length.
-pub fn decimal(s: &[u8]) -> Number
+pub fn decimal(s: &[u8]) -> Result<u64, NumberError>
     ensures { result ≡ number_of 10 s.now }
 {
     in_base(s, 10)
 }
 
 // A hexadecimal number, of any length, its digits of either case.
-pub fn hexadecimal(s: &[u8]) -> Number
+pub fn hexadecimal(s: &[u8]) -> Result<u64, NumberError>
     ensures { result ≡ number_of 16 s.now }
 {
     in_base(s, 16)
@@ -83,12 +82,12 @@ fn is_digit(c: u8, base: u64) -> bool
     value(c) < base
 }
 
-fn in_base(s: &[u8], base: u64) -> Number
+fn in_base(s: &[u8], base: u64) -> Result<u64, NumberError>
     requires { 1 ≤ base }
     ensures { result ≡ number_of base s.now }
 {
     if s.len() == 0 {
-        return Number::Bad;
+        return Err(NumberError::Bad);
     }
     let mut n: u64 = 0;
     let mut i = 0;
@@ -96,18 +95,18 @@ fn in_base(s: &[u8], base: u64) -> Number
         let d = value(s[i]);
         i += 1;
         if base <= d {
-            return Number::Bad;
+            return Err(NumberError::Bad);
         }
         if (u64::MAX - d) / base < n {
             return too_large(s, i, base);
         }
         n = n * base + d;
     }
-    Number::Value(n)
+    Ok(n)
 }
 
 // A number that is too large already: what is left of it has to be digits.
-fn too_large(s: &[u8], from: usize, base: u64) -> Number
+fn too_large(s: &[u8], from: usize, base: u64) -> Result<u64, NumberError>
     requires { 1 ≤ base }
     ensures { result ≡ number_from base (2 ^ 64) (drop from s.now) }
 {
@@ -116,14 +115,15 @@ fn too_large(s: &[u8], from: usize, base: u64) -> Number
         if is_digit(s[i], base) {
             i += 1;
         } else {
-            return Number::Bad;
+            return Err(NumberError::Bad);
         }
     }
-    Number::TooLarge
+    Err(NumberError::TooLarge)
 }
 
-// Bytes written as pairs of hexadecimal digits, with or without blanks between the pairs, go to the start of bytes.
-pub fn pairs(s: &[u8], bytes: &mut [u8]) -> Bytes
+// Bytes written as pairs of hexadecimal digits, with or without blanks between the pairs, go to the start of bytes; the answer
+// is how many.
+pub fn pairs(s: &[u8], bytes: &mut [u8]) -> Result<usize, PairsError>
     ensures value { result ≡ pairs_read (length bytes.old) 0 s.now }
     ensures bytes_after { bytes.new ≡ pairs_into bytes.old 0 s.now }
 {
@@ -135,20 +135,20 @@ pub fn pairs(s: &[u8], bytes: &mut [u8]) -> Bytes
             continue;
         }
         if s.len() - i < 2 {
-            return Bytes::Bad;
+            return Err(PairsError::Bad);
         }
         if are_digits(s[i], s[i + 1]) {
             if bytes.len() <= n {
-                return Bytes::TooMany;
+                return Err(PairsError::TooMany);
             }
             bytes[n] = byte_of(s[i], s[i + 1]);
             n += 1;
             i += 2;
         } else {
-            return Bytes::Bad;
+            return Err(PairsError::Bad);
         }
     }
-    Bytes::Count(n)
+    Ok(n)
 }
 
 fn are_digits(c: u8, d: u8) -> bool
