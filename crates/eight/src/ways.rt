@@ -1,6 +1,7 @@
 // The three ways to keep eight connections, which main.rt names.
 use crate::units::{GAP, OPENING, STEPS, Tally, UNITS, id_of, settings_for, telegram};
-use connection::{Connection, Due};
+use connection::Connection;
+use open_end::answers::Due;
 use open_end::shown;
 use table::{PLACES, Place, Table};
 use text::reading;
@@ -65,7 +66,7 @@ fn exchange(
 ) -> Tally {
     let closed = Connection::closed();
     let r = closed.open(settings_for(unit));
-    let connection = r.connection;
+    let connection = r.left;
     let mut one = alone(One { connection, tally }, unit, 0, OPENING, frames, buffer);
     let mut left = rounds;
     while 0 < left {
@@ -93,7 +94,7 @@ fn alone(
         next += 1;
         let bytes = telegram(frames, unit, step);
         let d = turn(connection, id_of(unit, step), bytes, buffer);
-        connection = d.connection;
+        connection = d.left;
         let frame = d.frame;
         tally = tally.with_turn(step, bytes.len(), d.given, frame);
     }
@@ -101,11 +102,11 @@ fn alone(
 }
 
 // A record's turn, single or in the table: the time between two frames passes, a frame arrives, and what is due is handed over.
-fn turn(c: Connection, id: u16, bytes: &[u8], buffer: &mut [u8]) -> Due {
+fn turn(c: Connection, id: u16, bytes: &[u8], buffer: &mut [u8]) -> Due<Connection> {
     let e = c.elapse(GAP);
-    let c = e.connection;
+    let c = e.left;
     let r = c.arrive(id, bytes, buffer);
-    let c = r.connection;
+    let c = r.left;
     c.due(b"")
 }
 
@@ -114,7 +115,7 @@ fn taken(begun: One, unit: usize, messages: &[u8], buffer: &[u8]) -> One {
     let c = begun.connection;
     let tally = begun.tally;
     let t = c.take_step(ROOM);
-    let connection = t.connection;
+    let connection = t.left;
     One {
         connection,
         tally: tally.with_message(unit, t.flags, shown(buffer, t.len), messages),
@@ -186,7 +187,7 @@ fn turns_in_place(begun: All, from: usize, end: usize, frames: &[u8], buffers: &
         }
         let c = table.places[place];
         let d = turn(c, id, bytes, &mut buffers[start..stop]);
-        let next = d.connection;
+        let next = d.left;
         table.places[place] = next;
         let frame = d.frame;
         tally = tally.with_turn(step, bytes.len(), d.given, frame);

@@ -199,13 +199,13 @@ fn run(start: Ends, message: &[u8], buffer: &mut [u8]) -> Ends {
         left -= 1;
         let c = ends.from;
         let e = c.elapse(GAP);
-        let c = e.connection;
+        let c = e.left;
         if c.phase != OPEN {
             ends.from = c;
             return ends;
         }
         let d = c.due(message);
-        let next = d.connection;
+        let next = d.left;
         ends.from = next;
         if next.phase != OPEN {
             return ends;
@@ -219,7 +219,7 @@ fn run(start: Ends, message: &[u8], buffer: &mut [u8]) -> Ends {
         let c = ends.to;
         let r = c.arrive(frame.id, telegram(&bytes, payload.len), buffer);
         let done = r.told.said.done;
-        let next = r.connection;
+        let next = r.left;
         ends.to = next;
         if next.phase != OPEN {
             return ends;
@@ -311,7 +311,7 @@ impl Ends {
     fn offered(mut self, message: &[u8]) -> Ends {
         let c = self.from;
         let r = c.send(message);
-        let next = r.connection;
+        let next = r.left;
         self.from = next;
         self.done = false;
         self
@@ -331,7 +331,7 @@ impl Ends {
         let t = c.take_step(buffer.len());
         let len = t.len;
         let flags = t.flags;
-        let next = t.connection;
+        let next = t.left;
         self.from = next;
         let tally = self.tally;
         self.tally = tally.with_message(len);
