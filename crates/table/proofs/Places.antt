@@ -22,14 +22,13 @@ use Rattle.open_end.specs.Answers.{said}
 use Rattle.open_end.specs.OpenEnd.{arrived_at}
 use Rattle.open_end.proofs.Rules.{plainly, no_frame}
 use Rattle.connection.specs.declared.Connection.{Connection}
-use Rattle.open_end.specs.declared.answers.Answered.{Answered as RecordAnswered}
+use Rattle.open_end.specs.declared.answers.Answered.{Answered as RecordAnswered, Answered}
 use Rattle.open_end.specs.declared.answers.Arrived.{Arrived as RecordArrived}
 use Rattle.connection.specs.Record.{is_closed, is_requesting, is_agreeing, listens_on, hears}
 use Rattle.connection.specs.Calls.{on_reply, on_accept, on_agreeing, on_open, arrived, buffered, elapsed, due_of, sent_by, taken_by, closed}
 use Rattle.table.specs.declared.Table.{Table}
 use Rattle.std.specs.Prelude.{Some, None}
 use Rattle.table.specs.declared.Arrived.{Arrived}
-use Rattle.table.specs.declared.Answered.{Answered}
 use Rattle.table.specs.Table.{named, owner_of}
 use Rattle.table.specs.Calls.{arrives, buffers, elapses, hands, sends, takes, shows, closes}
 use Rattle.table.proofs.Found.{lowest-is, lowest-nowhere, owner-hears, owner-first}
@@ -87,14 +86,14 @@ module _ (t : Table) (id : ℕ) where
 
 -- 3, nothing changed, no mark, and no place
 abbrev pub three : Table → Arrived
-three t = record { told = record { answer = OtherId; said = record { number = 3; done = false; opcode = 0 } }; padded = false; place = None; table = t }
+three t = record { told = record { answer = OtherId; said = record { number = 3; done = false; opcode = 0 } }; padded = false; place = None; left = t }
 
 -- the answer and the mark of a place's record, that place named, and that place alone changed
 pub record Goes (t : Table) (p : ℕ) (r : RecordArrived Connection) (a : Arrived) : Type 0 where
   pub told : a.told ≡ r.told
   pub padded : a.padded ≡ r.padded
   pub place : a.place ≡ Some p
-  pub table : Alone t p r.left a.table
+  pub left : Alone t p r.left a.left
 
 -- no answer of an open channel is 3
 channel-not-3 : (a : ChannelAnswer) → (said (Channel a)).number ≢ 3
@@ -157,7 +156,7 @@ module _ (limit : ℕ) (t : Table) (id : ℕ) (s : List ℕ) (room : ℕ) where
   unfolding arrives
   arrive-owner p h hear below =
       rw (is-owner t id p h hear below, lt-leb 8 p h)
-      (record { told = refl; padded = refl; place = refl; table = alone t p (arrived limit (record_at t p) id s room).left _ h refl })
+      (record { told = refl; padded = refl; place = refl; left = alone t p (arrived limit (record_at t p) id s room).left _ h refl })
 
   -- 3 exactly where no place listens
   pub arrive-3-exactly : (arrives limit t id s room).told.said.number ≡ 3 ↔ NoneListens t id
@@ -184,33 +183,33 @@ module _ (limit : ℕ) (t : Table) (id : ℕ) (s b : List ℕ) where
 -- ---- "Every other call names its place, 0 to 7 (else 4)"
 
 -- the answer of a place's record, and that place alone changed
-pub record Answers (t : Table) (p : ℕ) (r : RecordAnswered Connection) (a : Answered) : Type 0 where
+pub record Answers (t : Table) (p : ℕ) (r : RecordAnswered Connection) (a : Answered Table) : Type 0 where
   pub told : a.told ≡ r.told
-  pub table : Alone t p r.left a.table
+  pub left : Alone t p r.left a.left
 
 module _ (t : Table) (p : ℕ) (out : 8 ≤ p) where
   -- "(else 4)": nothing changed, nothing given
-  pub elapse-nowhere : (n : ℕ) → elapses t p n ≡ record { told = plainly NotDue 4; table = t }
+  pub elapse-nowhere : (n : ℕ) → elapses t p n ≡ record { told = plainly NotDue 4; left = t }
   unfolding elapses
   elapse-nowhere n = rw (le-leb 8 p out)
 
-  pub due-nowhere : (m : List ℕ) → hands t p m ≡ record { told = plainly NotDue 4; given = false; frame = no_frame; table = t }
+  pub due-nowhere : (m : List ℕ) → hands t p m ≡ record { told = plainly NotDue 4; given = false; frame = no_frame; left = t }
   unfolding hands
   due-nowhere m = rw (le-leb 8 p out)
 
-  pub send-nowhere : (limit n : ℕ) → sends limit t p n ≡ record { told = plainly NotDue 4; table = t }
+  pub send-nowhere : (limit n : ℕ) → sends limit t p n ≡ record { told = plainly NotDue 4; left = t }
   unfolding sends
   send-nowhere limit n = rw (le-leb 8 p out)
 
-  pub take-nowhere : (room : ℕ) → takes t p room ≡ record { told = plainly NotDue 4; len = 0; flags = 0; table = t }
+  pub take-nowhere : (room : ℕ) → takes t p room ≡ record { told = plainly NotDue 4; len = 0; flags = 0; left = t }
   unfolding takes
   take-nowhere room = rw (le-leb 8 p out)
 
-  pub shown-nowhere : (b : Bor (List ℕ)) → shows t p b ≡ record { told = plainly NotDue 4; flags = 0; table = t; place = b.ref_ptr; message = [] }
+  pub shown-nowhere : (b : Bor (List ℕ)) → shows t p b ≡ record { told = plainly NotDue 4; flags = 0; left = t; place = b.ref_ptr; message = [] }
   unfolding takes
   shown-nowhere b = rw (le-leb 8 p out)
 
-  pub close-nowhere : closes t p ≡ record { told = plainly NotDue 4; table = t }
+  pub close-nowhere : closes t p ≡ record { told = plainly NotDue 4; left = t }
   unfolding closes
   close-nowhere = rw (le-leb 8 p out)
 
@@ -218,21 +217,21 @@ module _ (t : Table) (p : ℕ) (h : p < 8) where
   -- a call that names a place is that record's, and no other's
   pub elapse-at : (n : ℕ) → Answers t p (elapsed (record_at t p) n) (elapses t p n)
   unfolding elapses
-  elapse-at n = rw (lt-leb 8 p h) (record { told = refl; table = alone t p (elapsed (record_at t p) n).left _ h refl })
+  elapse-at n = rw (lt-leb 8 p h) (record { told = refl; left = alone t p (elapsed (record_at t p) n).left _ h refl })
 
   pub due-at : (m : List ℕ)
       → (((hands t p m).told ≡ (due_of (record_at t p) m).told) × ((hands t p m).given ≡ (due_of (record_at t p) m).given) × ((hands t p m).frame ≡ (due_of (record_at t p) m).frame)
-      × Alone t p (due_of (record_at t p) m).left (hands t p m).table)
+      × Alone t p (due_of (record_at t p) m).left (hands t p m).left)
   unfolding hands
   due-at m = rw (lt-leb 8 p h) (refl, refl, refl, alone t p (due_of (record_at t p) m).left _ h refl)
 
   pub send_at : (limit n : ℕ) → Answers t p (sent_by limit (record_at t p) n) (sends limit t p n)
   unfolding sends
-  send_at limit n = rw (lt-leb 8 p h) (record { told = refl; table = alone t p (sent_by limit (record_at t p) n).left _ h refl })
+  send_at limit n = rw (lt-leb 8 p h) (record { told = refl; left = alone t p (sent_by limit (record_at t p) n).left _ h refl })
 
   pub take_at : (room : ℕ)
       → (((takes t p room).told ≡ (taken_by (record_at t p) room).told) × ((takes t p room).len ≡ (taken_by (record_at t p) room).len)
-      × ((takes t p room).flags ≡ (taken_by (record_at t p) room).flags) × Alone t p (taken_by (record_at t p) room).left (takes t p room).table)
+      × ((takes t p room).flags ≡ (taken_by (record_at t p) room).flags) × Alone t p (taken_by (record_at t p) room).left (takes t p room).left)
   unfolding takes
   take_at room = rw (lt-leb 8 p h) (refl, refl, refl, alone t p (taken_by (record_at t p) room).left _ h refl)
 
@@ -240,10 +239,10 @@ module _ (t : Table) (p : ℕ) (h : p < 8) where
   pub shown-at : (b : Bor (List ℕ))
       → (((shows t p b).told ≡ (taken_by (record_at t p) (length b.now)).told) × ((shows t p b).flags ≡ (taken_by (record_at t p) (length b.now)).flags)
       × ((shows t p b).place ≡ b.ref_ptr) × ((shows t p b).message ≡ take (taken_by (record_at t p) (length b.now)).len b.now)
-      × Alone t p (taken_by (record_at t p) (length b.now)).left (shows t p b).table)
+      × Alone t p (taken_by (record_at t p) (length b.now)).left (shows t p b).left)
   unfolding takes
   shown-at b = rw (lt-leb 8 p h) (refl, refl, refl, refl, alone t p (taken_by (record_at t p) (length b.now)).left _ h refl)
 
   pub close_at : Answers t p (closed (record_at t p)) (closes t p)
   unfolding closes
-  close_at = rw (lt-leb 8 p h) (record { told = refl; table = alone t p (closed (record_at t p)).left _ h refl })
+  close_at = rw (lt-leb 8 p h) (record { told = refl; left = alone t p (closed (record_at t p)).left _ h refl })

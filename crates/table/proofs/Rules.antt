@@ -107,10 +107,10 @@ asking s =
 
 -- 13 and 10: nothing changed, and no place named
 abbrev pub thirteen : Table → Opened
-thirteen t = record { told = record { answer = Full; said = record { number = 13; done = false; opcode = 0 } }; place = None; table = t }
+thirteen t = record { told = record { answer = Full; said = record { number = 13; done = false; opcode = 0 } }; place = None; left = t }
 
 abbrev pub ten : Table → Opened
-ten t = record { told = record { answer = OutOfRange; said = record { number = 10; done = false; opcode = 0 } }; place = None; table = t }
+ten t = record { told = record { answer = OutOfRange; said = record { number = 10; done = false; opcode = 0 } }; place = None; left = t }
 
 -- "otherwise the lowest closed place is used and named", A8 due there or not
 pub record Took (t : Table) (s : Settings) (p : ℕ) (r : Opened) : Type 0 where
@@ -119,7 +119,7 @@ pub record Took (t : Table) (s : Settings) (p : ℕ) (r : Opened) : Type 0 where
   pub lowest : (j : ℕ) → j < p → (record_at t j).phase ≢ 0
   pub told : r.told ≡ plainly Good 0
   pub place : r.place ≡ Some p
-  pub table : Alone t p (asking s) r.table
+  pub left : Alone t p (asking s) r.left
 
 -- an opening that is none of these
 pub record Fits (t : Table) (s : Settings) : Type 0 where
@@ -179,7 +179,7 @@ opens-outcome t s =
           lowest = λ j h. eqb-false _ 0 (free-first t j h);
           told = ap (λ r. r.told) leaves;
           place = rw (lt-leb 8 (free_of t) some);
-          table = alone t (free_of t) (opening (record_at t (free_of t)) s).left (asking s) some (ap (λ r. r.left) leaves);
+          left = alone t (free_of t) (opening (record_at t (free_of t)) s).left (asking s) some (ap (λ r. r.left) leaves);
         },
       ),
     ))

@@ -85,7 +85,7 @@ full_table =
 
 -- what an opening gives that took a place
 abbrev pub took : (place : ℕ) → Table → Opened
-took p t = record { told = plainly Good 0; place = Some p; table = t }
+took p t = record { told = plainly Good 0; place = Some p; left = t }
 
 -- a ninth opening overwrites no place
 pub ninth-refused : opens full_table (unit_at 9 0x309) ≡ thirteen full_table
@@ -165,10 +165,10 @@ closed-not-in-use = refl
 
 -- a C0 for unit 5 from an empty table, and its D0: our receive ID 0x305 back, transmit ID 0x740
 abbrev pub asked : Table
-asked = (hands (opens empty (unit_at 5 0x305)).table 0 []).table
+asked = (hands (opens empty (unit_at 5 0x305)).left 0 []).left
 
 abbrev pub replied : Table
-replied = (arrives 1024 asked 0x205 (0x00 ∷ 0xD0 ∷ 0x05 ∷ 0x03 ∷ 0x40 ∷ 0x07 ∷ 0x01 ∷ []) 0).table
+replied = (arrives 1024 asked 0x205 (0x00 ∷ 0xD0 ∷ 0x05 ∷ 0x03 ∷ 0x40 ∷ 0x07 ∷ 0x01 ∷ []) 0).left
 
 pub replied-is : replied ≡ row (granted 5 0x305 0x740) rest rest
 unfolding opens free_of reserved is_used uses_either allowed_by within bad_block tenths_of opening_as hands due_of request_due arrives owner_of hears listens_on arrived reply_read reply_for named_by on_reply
@@ -201,7 +201,7 @@ open-in-use = refl
 
 -- a frame for the second place, here an A8, is not given to the first, though that is open
 pub second-hears : arrives 1024 (row (opened 1 0x301 0x741) (granted 2 0x302 0x742) (opened 3 0x303 0x743)) 0x302 (0xA8 ∷ []) 0
-    ≡ record { told = plainly Disconnected 0; padded = false; place = Some 1; table = row (opened 1 0x301 0x741) (at_rest true 0x742) (opened 3 0x303 0x743) }
+    ≡ record { told = plainly Disconnected 0; padded = false; place = Some 1; left = row (opened 1 0x301 0x741) (at_rest true 0x742) (opened 3 0x303 0x743) }
 unfolding arrives owner_of hears listens_on arrived sorted_by on_agreeing kind_of
 second-hears = refl
 
@@ -216,6 +216,6 @@ unfolding arrives owner_of hears listens_on
 all_closed limit id s room = refl
 
 -- a place that is closed by a call owns its ID no more
-pub closed-by-a-call : named (owner_of (closes (row (opened 1 0x301 0x741) (opened 2 0x302 0x742) rest) 1).table 0x302) ≡ None
+pub closed-by-a-call : named (owner_of (closes (row (opened 1 0x301 0x741) (opened 2 0x302 0x742) rest) 1).left 0x302) ≡ None
 unfolding closes closed owner_of hears listens_on
 closed-by-a-call = refl

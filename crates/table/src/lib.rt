@@ -7,11 +7,12 @@
 ghost use Rattle.std.specs.Prelude.{◌≡◌, length};
 ghost use Rattle.telegram.specs.Cutting.{longest};
 ghost use Rattle.table.specs.Table.{empty, owner_of, named, free_of, uses_either, is_used, reserved};
-ghost use Rattle.table.specs.Calls.{nowhere, opens, arrives, buffers, elapses, hands, sends, takes, shows, looked, closes};
+ghost use Rattle.table.specs.Calls.{opens, arrives, buffers, elapses, hands, sends, takes, shows, closes};
+ghost use Rattle.open_end.specs.Answers.{looked};
 
 use connection::{CLOSED, Connection};
-use open_end::answers::{Answer, Told, tell};
-use open_end::{Frame, no_frame, shown};
+use open_end::answers::{Answer, Answered, Due, Record, TakeStep, Taken, Told, tell};
+use open_end::{no_frame, shown};
 use settings::Settings;
 
 // How many places a table has.
@@ -28,7 +29,7 @@ pub struct Table {
 pub struct Opened {
     pub told: Told,
     pub place: Option<u8>,
-    pub table: Table,
+    pub left: Table,
 }
 
 // What a frame that arrives tells, whether its telegram is padded, its owner's place, if it has one, and the table that it leaves.
@@ -37,42 +38,7 @@ pub struct Arrived {
     pub told: Told,
     pub padded: bool,
     pub place: Option<u8>,
-    pub table: Table,
-}
-
-// What a call to a place tells, and the table that it leaves.
-#[derive(Clone, Copy)]
-pub struct Answered {
-    pub told: Told,
-    pub table: Table,
-}
-
-// A frame that a place hands over, if one is given; else ID 0 and no bytes.
-#[derive(Clone, Copy)]
-pub struct Due {
-    pub told: Told,
-    pub given: bool,
-    pub frame: Frame,
-    pub table: Table,
-}
-
-// What taking a message at a place comes to: where it is shown, len is its declared length and flags are its flags, and else
-// both are 0.
-#[derive(Clone, Copy)]
-pub struct TakeStep {
-    pub told: Told,
-    pub len: usize,
-    pub flags: u16,
-    pub table: Table,
-}
-
-// A message taken at a place: the first part of the lent buffer, and nothing of it where none is shown; its flags, and 0 there.
-#[derive(Clone, Copy)]
-pub struct Taken<'a> {
-    pub told: Told,
-    pub flags: u16,
-    pub table: Table,
-    pub message: &'a [u8],
+    pub left: Table,
 }
 
 // Whether replies to a C0, which come from 0x200 + unit, may come on this ID.
@@ -90,6 +56,8 @@ fn uses_either(c: Connection, unit: u8, receive: u16) -> bool
 {
     c.phase != CLOSED && (c.settings.unit == unit || c.settings.receive == receive)
 }
+
+impl Record for Table {}
 
 impl Table {
     // A table with every place closed, and nothing due.
@@ -138,7 +106,7 @@ impl Table {
             return Opened {
                 told: tell(Answer::Full),
                 place: None,
-                table: self,
+                left: self,
             };
         };
         if reserved(settings.receive)
@@ -148,7 +116,7 @@ impl Table {
             return Opened {
                 told: tell(Answer::OutOfRange),
                 place: None,
-                table: self,
+                left: self,
             };
         }
         let r = self.places[p].open(settings);
@@ -156,7 +124,7 @@ impl Table {
         Opened {
             told: r.told,
             place: Some(p as u8),
-            table: self,
+            left: self,
         }
     }
 
@@ -170,7 +138,7 @@ impl Table {
                 told: tell(Answer::OtherId),
                 padded: false,
                 place: None,
-                table: self,
+                left: self,
             };
         };
         let r = self.places[p].arrive(id, bytes, buffer);
@@ -179,38 +147,28 @@ impl Table {
             told: r.told,
             padded: r.padded,
             place: Some(p as u8),
-            table: self,
-        }
-    }
-
-    // A call that names no place of the table.
-    fn nowhere(self) -> Answered
-        ensures { result ≡ nowhere self }
-    {
-        Answered {
-            told: tell(Answer::Channel(channel::Answer::NotDue)),
-            table: self,
+            left: self,
         }
     }
 
     // Time passes at a place.
-    pub fn elapse(mut self, place: u8, tenths: u64) -> Answered
+    pub fn elapse(mut self, place: u8, tenths: u64) -> Answered<Table>
         ensures { result ≡ elapses self place tenths }
     {
         let p = place as usize;
         let Some(c) = self.places.get(p) else {
-            return self.nowhere();
+            return self.gives(channel::Answer::NotDue);
         };
         let r = c.elapse(tenths);
         self.places[p] = r.left;
         Answered {
             told: r.told,
-            table: self,
+            left: self,
         }
     }
 
     // What a place has due: at most one frame, the message in sending there being lent.
-    pub fn due(mut self, place: u8, message: &[u8]) -> Due
+    pub fn due(mut self, place: u8, message: &[u8]) -> Due<Table>
         ensures { result ≡ hands self place message.now }
     {
         let p = place as usize;
@@ -219,7 +177,7 @@ impl Table {
                 told: tell(Answer::Channel(channel::Answer::NotDue)),
                 given: false,
                 frame: no_frame(),
-                table: self,
+                left: self,
             };
         };
         let d = c.due(message);
@@ -228,28 +186,28 @@ impl Table {
             told: d.told,
             given: d.given,
             frame: d.frame,
-            table: self,
+            left: self,
         }
     }
 
     // A message to send at a place.
-    pub fn send(mut self, place: u8, message: &[u8]) -> Answered
+    pub fn send(mut self, place: u8, message: &[u8]) -> Answered<Table>
         ensures { result ≡ sends longest self place (length message.now) }
     {
         let p = place as usize;
         let Some(c) = self.places.get(p) else {
-            return self.nowhere();
+            return self.gives(channel::Answer::NotDue);
         };
         let r = c.send(message);
         self.places[p] = r.left;
         Answered {
             told: r.told,
-            table: self,
+            left: self,
         }
     }
 
     // What taking a message at a place comes to, in a lent buffer of room bytes.
-    pub fn take_step(mut self, place: u8, room: usize) -> TakeStep
+    pub fn take_step(mut self, place: u8, room: usize) -> TakeStep<Table>
         ensures { result ≡ takes self place room }
     {
         let p = place as usize;
@@ -258,7 +216,7 @@ impl Table {
                 told: tell(Answer::Channel(channel::Answer::NotDue)),
                 len: 0,
                 flags: 0,
-                table: self,
+                left: self,
             };
         };
         let t = c.take_step(room);
@@ -267,12 +225,12 @@ impl Table {
             told: t.told,
             len: t.len,
             flags: t.flags,
-            table: self,
+            left: self,
         }
     }
 
     // Takes the complete message of a place: it is shown as the first part of the lent buffer, that connection's own.
-    pub fn take<'a>(self, place: u8, buffer: &'a [u8]) -> Taken<'a>
+    pub fn take<'a>(self, place: u8, buffer: &'a [u8]) -> Taken<'a, Table>
         ensures { looked result ≡ shows self place buffer.entry }
     {
         let step = self.take_step(place, buffer.len());
@@ -280,24 +238,24 @@ impl Table {
         Taken {
             told: step.told,
             flags: step.flags,
-            table: step.table,
+            left: step.left,
             message,
         }
     }
 
     // Closes a place.
-    pub fn close(mut self, place: u8) -> Answered
+    pub fn close(mut self, place: u8) -> Answered<Table>
         ensures { result ≡ closes self place }
     {
         let p = place as usize;
         let Some(c) = self.places.get(p) else {
-            return self.nowhere();
+            return self.gives(channel::Answer::NotDue);
         };
         let r = c.close();
         self.places[p] = r.left;
         Answered {
             told: r.told,
-            table: self,
+            left: self,
         }
     }
 }

@@ -9,8 +9,8 @@ use Rattle.open_end.specs.Answers.{told}
 use Rattle.connection.specs.declared.Connection.{Connection}
 use Rattle.connection.specs.Record.{is_open}
 use Rattle.table.specs.declared.Table.{Table}
-use Rattle.table.specs.declared.Due.{Due}
-use Rattle.table.specs.declared.TakeStep.{TakeStep}
+use Rattle.open_end.specs.declared.answers.Due.{Due}
+use Rattle.open_end.specs.declared.answers.TakeStep.{TakeStep}
 use Rattle.table.specs.Table.{places, empty, at, owner_of}
 use Rattle.table.specs.Calls.{arrives, buffers, elapses, hands, sends, takes}
 use Rattle.table_runs.specs.Runs.{Call, run, goes_to}
@@ -74,11 +74,11 @@ abbrev pub tells : Answer → Past → Told Past
 tells a x = record { number = a.said.number; done = a.said.done; state = x }
 
 -- the same of a take
-abbrev pub shows : TakeStep → Past → Taken Past
+abbrev pub shows : TakeStep Table → Past → Taken Past
 shows t x = record { number = t.told.said.number; message = record { length = t.len; flags = t.flags }; state = x }
 
 -- the same of what is due: the frame's ID and bytes
-abbrev pub gives : Due → Past → Given Past
+abbrev pub gives : Due Table → Past → Given Past
 gives d x = record { given = d.given; id = d.frame.id; bytes = bytes_of d.frame.payload; state = x }
 
 -- the table's calls at a place, each after what goes to the others; its channel and its two IDs are those of the record there

@@ -20,9 +20,9 @@ use Rattle.connection.proofs.Rules.{opening-leaves}
 use Rattle.table.specs.declared.Table.{Table}
 use Rattle.table.specs.declared.Opened.{Opened}
 use Rattle.table.specs.declared.Arrived.{Arrived}
-use Rattle.table.specs.declared.Answered.{Answered}
-use Rattle.table.specs.declared.Due.{Due}
-use Rattle.table.specs.declared.TakeStep.{TakeStep}
+use Rattle.open_end.specs.declared.answers.Answered.{Answered}
+use Rattle.open_end.specs.declared.answers.Due.{Due}
+use Rattle.open_end.specs.declared.answers.TakeStep.{TakeStep}
 use Rattle.table.specs.Table.{places, no_record, at, with, owner_of, free_of, is_used, reserved}
 use Rattle.table.specs.Calls.{opens, arrives, elapses, hands, sends, takes, closes}
 use Rattle.table_runs.specs.Runs.{Call, step, number_of, goes_to}
@@ -44,7 +44,7 @@ leaves limit t (take p room) = (taken_by (at t p) room).left
 leaves limit t (close p) = (closed (at t p)).left
 
 -- an opening puts its record at the lowest closed place, if it is taken
-opens-put : (t : Table) (s : Settings) → (opens t s).table ≡ put t (number_of (opens t s).place) (requesting s)
+opens-put : (t : Table) (s : Settings) → (opens t s).left ≡ put t (number_of (opens t s).place) (requesting s)
 unfolding opens
 opens-put t s =
     by_le Puts places (free_of t) (λ _. refl) λ free.
@@ -54,18 +54,18 @@ opens-put t s =
     rw (lt-leb places (free_of t) free, lt-leb places (free_of t) free, opening-leaves (at t (free_of t)) s (eqb-true _ _ (free-closed t free)) a)
   where
     Puts : Opened → Type 0
-    Puts x = x.table ≡ put t (number_of x.place) (requesting s)
+    Puts x = x.left ≡ put t (number_of x.place) (requesting s)
 
 -- every call, by its chain
 pub steps-put : (limit : ℕ) (t : Table) (c : Call) → step limit t c ≡ put t (goes_to t c) (leaves limit t c)
 unfolding arrives elapses hands sends takes closes
 steps-put limit t (open' s) = opens-put t s
-steps-put limit t (frame id bytes room) = each (λ (x : Arrived). x.table) (leb places (owner_of t id)) refl refl
-steps-put limit t (time p n) = each (λ (x : Answered). x.table) (leb places p) refl refl
-steps-put limit t (due p m) = each (λ (x : Due). x.table) (leb places p) refl refl
-steps-put limit t (send p n) = each (λ (x : Answered). x.table) (leb places p) refl refl
-steps-put limit t (take p room) = each (λ (x : TakeStep). x.table) (leb places p) refl refl
-steps-put limit t (close p) = each (λ (x : Answered). x.table) (leb places p) refl refl
+steps-put limit t (frame id bytes room) = each (λ (x : Arrived). x.left) (leb places (owner_of t id)) refl refl
+steps-put limit t (time p n) = each (λ (x : Answered Table). x.left) (leb places p) refl refl
+steps-put limit t (due p m) = each (λ (x : Due Table). x.left) (leb places p) refl refl
+steps-put limit t (send p n) = each (λ (x : Answered Table). x.left) (leb places p) refl refl
+steps-put limit t (take p room) = each (λ (x : TakeStep Table). x.left) (leb places p) refl refl
+steps-put limit t (close p) = each (λ (x : Answered Table). x.left) (leb places p) refl refl
 
 -- the record that was put at a place of eight
 pub with-here : (t : Table) (p : ℕ) (d : Connection) → length t.places ≡ places → p < places → at (with t p d) p ≡ d

@@ -22,13 +22,13 @@ pub data Call : Type 0 where
 
 -- one call, by the very definition of its contract
 abbrev pub step : (limit : ℕ) → Table → Call → Table
-step limit t (open' s) = (opens t s).table
-step limit t (frame id bytes room) = (arrives limit t id bytes room).table
-step limit t (time p n) = (elapses t p n).table
-step limit t (due p m) = (hands t p m).table
-step limit t (send p n) = (sends limit t p n).table
-step limit t (take p room) = (takes t p room).table
-step limit t (close p) = (closes t p).table
+step limit t (open' s) = (opens t s).left
+step limit t (frame id bytes room) = (arrives limit t id bytes room).left
+step limit t (time p n) = (elapses t p n).left
+step limit t (due p m) = (hands t p m).left
+step limit t (send p n) = (sends limit t p n).left
+step limit t (take p room) = (takes t p room).left
+step limit t (close p) = (closes t p).left
 
 -- a list of calls
 abbrev pub run : (limit : ℕ) → Table → List Call → Table

@@ -5,7 +5,7 @@ use Rattle.table.proofs.Table.close.Goals as goal
 
 pub returns-in_default : goal.returns-in_default
 unfolding closes
-returns-in_default c = rw (c.nowhere.ensures, got-none c.args.self c.args.place (search rules) c.in_default.ensures.lookup)
+returns-in_default c = rw (c.gives.ensures, got-none c.args.self c.args.place (search rules) c.in_default.ensures.lookup)
 
 pub returns : goal.returns
 unfolding closes
