@@ -13,7 +13,7 @@ use dialogue::session::{Session, clear};
 use dialogue::words::{behind_word, only_id};
 use open_end::answers::{Answer, Said, tell};
 use open_end::shown;
-use table::{Answered, Arrived, Due, PLACES, Place, Table, TakeStep};
+use table::{Answered, Arrived, Due, PLACES, Table, TakeStep};
 use text::reading::Number;
 use text::{reading, writing};
 
@@ -22,10 +22,16 @@ use text::{reading, writing};
 struct Console {
     table: Table,
     session: Session,
-    // How many bytes of each place's buffer are lent.
-    rooms: [u16; 8],
-    // The length of the message last accepted at each place.
-    lengths: [u16; 8],
+    places: [Kept; PLACES],
+}
+
+// What is kept for a place.
+#[derive(Clone, Copy)]
+struct Kept {
+    // How many bytes of its buffer are lent.
+    room: u16,
+    // The length of the message last accepted there.
+    length: u16,
 }
 
 // The length of a place's part of the buffers, and of the messages.
@@ -65,13 +71,14 @@ fn talk<R: Input + Print + Eprint>(
 
 // An empty table, the first 1,024 bytes of each buffer lent, and no message.
 fn anew(session: Session) -> Console {
-    let rooms = [1024; 8];
-    let lengths = [0; 8];
+    let fresh = Kept {
+        room: 1024,
+        length: 0,
+    };
     Console {
         table: Table::empty(),
         session,
-        rooms,
-        lengths,
+        places: [fresh; PLACES],
     }
 }
 
@@ -96,22 +103,18 @@ impl Console {
 
     // How many bytes of a place's buffer are lent.
     fn room(self, place: u8) -> u16 {
-        let p = place as usize;
-        if PLACES <= p {
-            return 0;
+        match self.places.get(place as usize) {
+            Some(kept) => kept.room,
+            None => 0,
         }
-        let rooms = self.rooms;
-        rooms[p]
     }
 
     // The length of the message last accepted at a place.
     fn length(self, place: u8) -> u16 {
-        let p = place as usize;
-        if PLACES <= p {
-            return 0;
+        match self.places.get(place as usize) {
+            Some(kept) => kept.length,
+            None => 0,
         }
-        let lengths = self.lengths;
-        lengths[p]
     }
 
     // Reads a line and answers it; it is understood whole before anything is done.
@@ -210,11 +213,10 @@ impl Console {
     }
 
     fn owner<R: Print + Eprint>(self, rt: &R, id: u16, text: &mut [u8]) -> Console {
-        let table = self.table;
         let session = self.session;
-        match table.owner(id) {
-            Place::Nowhere => self.with(session.tell_owner(rt, false, 0, text)),
-            Place::At(p) => self.with(session.tell_owner(rt, true, p, text)),
+        match self.table.owner(id) {
+            None => self.with(session.tell_owner(rt, false, 0, text)),
+            Some(p) => self.with(session.tell_owner(rt, true, p, text)),
         }
     }
 
@@ -227,9 +229,13 @@ impl Console {
     // A frame arrives, the room of its owner's buffer being lent.
     fn arriving(self, id: u16, bytes: &[u8], buffers: &mut [u8]) -> Arrived {
         let table = self.table;
-        match table.owner(id) {
-            Place::Nowhere => arrive(table, id, bytes, buffers, 0, 0),
-            Place::At(p) => arrive(table, id, bytes, buffers, p, self.room(p)),
+        let Some(p) = table.owner(id) else {
+            return table.arrive(id, bytes, &mut []);
+        };
+        let start = p as usize * PART;
+        match buffers.get_mut(start..start + self.room(p) as usize) {
+            Some(lent) => table.arrive(id, bytes, lent),
+            None => table.arrive(id, bytes, buffers),
         }
     }
 
@@ -257,16 +263,11 @@ impl Console {
             done: false,
             opcode: 0,
         };
-        let mut said = [nothing; 8];
-        let mut p = 0;
-        while p < PLACES {
-            let passed = table.elapse((p % 256) as u8, tenths);
-            let told = passed.told;
-            let answer = told.said;
-            let next = passed.table;
-            said[p] = answer;
-            table = next;
-            p += 1;
+        let mut said = [nothing; PLACES];
+        for p in 0..PLACES {
+            let passed = table.elapse(p as u8, tenths);
+            said[p] = passed.told.said;
+            table = passed.table;
         }
         self.leaving(table, session.tell_each(rt, said, text))
     }
@@ -292,13 +293,9 @@ impl Console {
     }
 
     fn keeping(mut self, place: u8, length: usize) -> Console {
-        let p = place as usize;
-        if PLACES <= p {
-            return self;
+        if let Some(kept) = self.places.get_mut(place as usize) {
+            kept.length = (length % 65536) as u16;
         }
-        let mut lengths = self.lengths;
-        lengths[p] = (length % 65536) as u16;
-        self.lengths = lengths;
         self
     }
 
@@ -309,14 +306,11 @@ impl Console {
         room: usize,
         text: &mut [u8],
     ) -> Console {
-        let p = place as usize;
-        if PLACES <= p {
+        let Some(kept) = self.places.get_mut(place as usize) else {
             return self.nowhere(rt, text);
-        }
+        };
+        kept.room = (room % 65536) as u16;
         let session = self.session;
-        let mut rooms = self.rooms;
-        rooms[p] = (room % 65536) as u16;
-        self.rooms = rooms;
         self.with(session.grant(rt))
     }
 
@@ -327,12 +321,11 @@ impl Console {
         buffers: &[u8],
         text: &mut [u8],
     ) -> Console {
-        if PLACES <= place as usize {
+        let Some(kept) = self.places.get(place as usize) else {
             return self.nowhere(rt, text);
-        }
+        };
         let session = self.session;
-        let room = self.room(place) as usize;
-        self.with(session.show(rt, shown(part(buffers, place), room), text))
+        self.with(session.show(rt, shown(part(buffers, place), kept.room as usize), text))
     }
 
     // Answers a call that names no place of the table, and asks for what the table does not keep.
@@ -412,30 +405,13 @@ impl Console {
         rt: &R,
         next: Table,
         carried: Carried,
-        place: Place,
+        place: Option<u8>,
         text: &mut [u8],
     ) -> Console {
         let session = self.session;
         match place {
-            Place::Nowhere => self.telling(rt, next, carried, &[], text),
-            Place::At(p) => self.leaving(next, session.tell_at(rt, carried, p, text)),
+            None => self.telling(rt, next, carried, &[], text),
+            Some(p) => self.leaving(next, session.tell_at(rt, carried, p, text)),
         }
     }
-}
-
-// A frame arrives, the first room bytes of a place's buffer being lent.
-fn arrive(
-    table: Table,
-    id: u16,
-    bytes: &[u8],
-    buffers: &mut [u8],
-    place: u8,
-    room: u16,
-) -> Arrived {
-    let start = place as usize * PART;
-    let end = start + room as usize;
-    if buffers.len() < end {
-        return table.arrive(id, bytes, buffers);
-    }
-    table.arrive(id, bytes, &mut buffers[start..end])
 }
