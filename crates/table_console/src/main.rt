@@ -7,15 +7,14 @@ use channel::Answer::NotDue;
 use dialogue::answers::Carried;
 use dialogue::calls::Call;
 use dialogue::lines::read_line;
-use dialogue::numbers::read_opening;
+use dialogue::numbers::{Opening, read_opening};
 use dialogue::places::{Asked, read_asked};
 use dialogue::session::{Session, clear};
 use dialogue::words::{behind_word, only_id};
-use open_end::answers::{Answer, Said, tell};
+use open_end::answers::{Answer, Answered, Due, Said, TakeStep, tell};
 use open_end::shown;
-use settings::Settings;
-use table::{Answered, Arrived, Due, PLACES, Place, Table, TakeStep};
-use text::reading::NumberError;
+use table::{Arrived, PLACES, Table};
+use text::reading::Number;
 use text::{reading, writing};
 
 // What is kept from line to line, beside the buffers and the messages that main makes.
@@ -23,10 +22,16 @@ use text::{reading, writing};
 struct Console {
     table: Table,
     session: Session,
-    // How many bytes of each place's buffer are lent.
-    rooms: [u16; 8],
-    // The length of the message last accepted at each place.
-    lengths: [u16; 8],
+    places: [Kept; PLACES],
+}
+
+// What is kept for a place.
+#[derive(Clone, Copy)]
+struct Kept {
+    // How many bytes of its buffer are lent.
+    room: u16,
+    // The length of the message last accepted there.
+    length: u16,
 }
 
 // The length of a place's part of the buffers, and of the messages.
@@ -66,13 +71,14 @@ fn talk<R: Input + Print + Eprint>(
 
 // An empty table, the first 1,024 bytes of each buffer lent, and no message.
 fn anew(session: Session) -> Console {
-    let rooms = [1024; 8];
-    let lengths = [0; 8];
+    let fresh = Kept {
+        room: 1024,
+        length: 0,
+    };
     Console {
         table: Table::empty(),
         session,
-        rooms,
-        lengths,
+        places: [fresh; PLACES],
     }
 }
 
@@ -97,22 +103,18 @@ impl Console {
 
     // How many bytes of a place's buffer are lent.
     fn room(self, place: u8) -> u16 {
-        let p = place as usize;
-        if PLACES <= p {
-            return 0;
+        match self.places.get(place as usize) {
+            Some(kept) => kept.room,
+            None => 0,
         }
-        let rooms = self.rooms;
-        rooms[p]
     }
 
     // The length of the message last accepted at a place.
     fn length(self, place: u8) -> u16 {
-        let p = place as usize;
-        if PLACES <= p {
-            return 0;
+        match self.places.get(place as usize) {
+            Some(kept) => kept.length,
+            None => 0,
         }
-        let lengths = self.lengths;
-        lengths[p]
     }
 
     // Reads a line and answers it; it is understood whole before anything is done.
@@ -145,16 +147,16 @@ impl Console {
     ) -> Console {
         let table = self.table;
         let session = self.session;
-        // The calls of no place do without it.
-        let place = asked.place.unwrap_or(0);
-        match asked.call {
+        let place = asked.place;
+        let call = asked.call;
+        match call {
             Call::Nothing => self,
             Call::Wrong => self.with(session.wrong(rt, text)),
             Call::New => self.renewed(rt, buffers),
             Call::Frame { id, count } => {
                 self.arrived(rt, self.arriving(id, shown(bytes, count), buffers), text)
             }
-            Call::Time(tenths) => self.elapsed(rt, asked.place, tenths, text),
+            Call::Time(tenths) => self.elapsed(rt, asked.named, place, tenths, text),
             Call::Due => {
                 let message = shown(part(messages, place), self.length(place) as usize);
                 self.handed(rt, table.due(place, message), text)
@@ -186,45 +188,35 @@ impl Console {
         self.with(session.wrong(rt, text))
     }
 
-    fn opened<R: Print + Eprint>(
-        self,
-        rt: &R,
-        opening: Option<Settings>,
-        text: &mut [u8],
-    ) -> Console {
+    fn opened<R: Print + Eprint>(self, rt: &R, opening: Opening, text: &mut [u8]) -> Console {
         let table = self.table;
         let session = self.session;
         match opening {
-            None => self.with(session.wrong(rt, text)),
-            Some(settings) => {
+            Opening::Wrong => self.with(session.wrong(rt, text)),
+            Opening::With(settings) => {
                 let opened = table.open(settings);
                 let told = opened.told;
                 let place = opened.place;
-                let next = opened.table;
+                let next = opened.left;
                 self.telling_at(rt, next, Carried::marked(told.said, false), place, text)
             }
         }
     }
 
-    fn owned<R: Print + Eprint>(
-        self,
-        rt: &R,
-        id: Result<u64, NumberError>,
-        text: &mut [u8],
-    ) -> Console {
+    fn owned<R: Print + Eprint>(self, rt: &R, id: Number, text: &mut [u8]) -> Console {
         let session = self.session;
         match id {
-            Ok(n) => self.owner(rt, (n % 65536) as u16, text),
-            Err(_) => self.with(session.wrong(rt, text)),
+            Number::Value(n) => self.owner(rt, (n % 65536) as u16, text),
+            Number::TooLarge => self.with(session.wrong(rt, text)),
+            Number::Bad => self.with(session.wrong(rt, text)),
         }
     }
 
     fn owner<R: Print + Eprint>(self, rt: &R, id: u16, text: &mut [u8]) -> Console {
-        let table = self.table;
         let session = self.session;
-        match table.owner(id) {
-            Place::Nowhere => self.with(session.tell_owner(rt, None, text)),
-            Place::At(p) => self.with(session.tell_owner(rt, Some(p), text)),
+        match self.table.owner(id) {
+            None => self.with(session.tell_owner(rt, false, 0, text)),
+            Some(p) => self.with(session.tell_owner(rt, true, p, text)),
         }
     }
 
@@ -237,9 +229,13 @@ impl Console {
     // A frame arrives, the room of its owner's buffer being lent.
     fn arriving(self, id: u16, bytes: &[u8], buffers: &mut [u8]) -> Arrived {
         let table = self.table;
-        match table.owner(id) {
-            Place::Nowhere => arrive(table, id, bytes, buffers, 0, 0),
-            Place::At(p) => arrive(table, id, bytes, buffers, p, self.room(p)),
+        let Some(p) = table.owner(id) else {
+            return table.arrive(id, bytes, &mut []);
+        };
+        let start = p as usize * PART;
+        match buffers.get_mut(start..start + self.room(p) as usize) {
+            Some(lent) => table.arrive(id, bytes, lent),
+            None => table.arrive(id, bytes, buffers),
         }
     }
 
@@ -247,15 +243,16 @@ impl Console {
     fn elapsed<R: Print + Eprint>(
         self,
         rt: &R,
-        place: Option<u8>,
+        named: bool,
+        place: u8,
         tenths: u64,
         text: &mut [u8],
     ) -> Console {
         let table = self.table;
-        match place {
-            Some(p) => self.answered(rt, table.elapse(p, tenths), text),
-            None => self.each_elapsed(rt, tenths, text),
+        if named {
+            return self.answered(rt, table.elapse(place, tenths), text);
         }
+        self.each_elapsed(rt, tenths, text)
     }
 
     fn each_elapsed<R: Print + Eprint>(self, rt: &R, tenths: u64, text: &mut [u8]) -> Console {
@@ -266,16 +263,11 @@ impl Console {
             done: false,
             opcode: 0,
         };
-        let mut said = [nothing; 8];
-        let mut p = 0;
-        while p < PLACES {
-            let passed = table.elapse((p % 256) as u8, tenths);
-            let told = passed.told;
-            let answer = told.said;
-            let next = passed.table;
-            said[p] = answer;
-            table = next;
-            p += 1;
+        let mut said = [nothing; PLACES];
+        for p in 0..PLACES {
+            let passed = table.elapse(p as u8, tenths);
+            said[p] = passed.told.said;
+            table = passed.left;
         }
         self.leaving(table, session.tell_each(rt, said, text))
     }
@@ -301,13 +293,9 @@ impl Console {
     }
 
     fn keeping(mut self, place: u8, length: usize) -> Console {
-        let p = place as usize;
-        if PLACES <= p {
-            return self;
+        if let Some(kept) = self.places.get_mut(place as usize) {
+            kept.length = (length % 65536) as u16;
         }
-        let mut lengths = self.lengths;
-        lengths[p] = (length % 65536) as u16;
-        self.lengths = lengths;
         self
     }
 
@@ -318,14 +306,11 @@ impl Console {
         room: usize,
         text: &mut [u8],
     ) -> Console {
-        let p = place as usize;
-        if PLACES <= p {
+        let Some(kept) = self.places.get_mut(place as usize) else {
             return self.nowhere(rt, text);
-        }
+        };
+        kept.room = (room % 65536) as u16;
         let session = self.session;
-        let mut rooms = self.rooms;
-        rooms[p] = (room % 65536) as u16;
-        self.rooms = rooms;
         self.with(session.grant(rt))
     }
 
@@ -336,12 +321,11 @@ impl Console {
         buffers: &[u8],
         text: &mut [u8],
     ) -> Console {
-        if PLACES <= place as usize {
+        let Some(kept) = self.places.get(place as usize) else {
             return self.nowhere(rt, text);
-        }
+        };
         let session = self.session;
-        let room = self.room(place) as usize;
-        self.with(session.show(rt, shown(part(buffers, place), room), text))
+        self.with(session.show(rt, shown(part(buffers, place), kept.room as usize), text))
     }
 
     // Answers a call that names no place of the table, and asks for what the table does not keep.
@@ -351,16 +335,16 @@ impl Console {
         self.telling(rt, table, Carried::marked(told.said, false), &[], text)
     }
 
-    fn answered<R: Print + Eprint>(self, rt: &R, answered: Answered, text: &mut [u8]) -> Console {
+    fn answered<R: Print + Eprint>(self, rt: &R, answered: Answered<Table>, text: &mut [u8]) -> Console {
         let told = answered.told;
-        let next = answered.table;
+        let next = answered.left;
         self.telling(rt, next, Carried::marked(told.said, false), &[], text)
     }
 
     fn arrived<R: Print + Eprint>(self, rt: &R, arrived: Arrived, text: &mut [u8]) -> Console {
         let told = arrived.told;
         let place = arrived.place;
-        let next = arrived.table;
+        let next = arrived.left;
         self.telling_at(
             rt,
             next,
@@ -370,10 +354,10 @@ impl Console {
         )
     }
 
-    fn handed<R: Print + Eprint>(self, rt: &R, due: Due, text: &mut [u8]) -> Console {
+    fn handed<R: Print + Eprint>(self, rt: &R, due: Due<Table>, text: &mut [u8]) -> Console {
         let told = due.told;
         let frame = due.frame;
-        let next = due.table;
+        let next = due.left;
         self.telling(
             rt,
             next,
@@ -386,12 +370,12 @@ impl Console {
     fn taken<R: Print + Eprint>(
         self,
         rt: &R,
-        taken: TakeStep,
+        taken: TakeStep<Table>,
         buffer: &[u8],
         text: &mut [u8],
     ) -> Console {
         let told = taken.told;
-        let next = taken.table;
+        let next = taken.left;
         let len = taken.len;
         self.telling(
             rt,
@@ -421,30 +405,13 @@ impl Console {
         rt: &R,
         next: Table,
         carried: Carried,
-        place: Place,
+        place: Option<u8>,
         text: &mut [u8],
     ) -> Console {
         let session = self.session;
         match place {
-            Place::Nowhere => self.telling(rt, next, carried, &[], text),
-            Place::At(p) => self.leaving(next, session.tell_at(rt, carried, p, text)),
+            None => self.telling(rt, next, carried, &[], text),
+            Some(p) => self.leaving(next, session.tell_at(rt, carried, p, text)),
         }
     }
-}
-
-// A frame arrives, the first room bytes of a place's buffer being lent.
-fn arrive(
-    table: Table,
-    id: u16,
-    bytes: &[u8],
-    buffers: &mut [u8],
-    place: u8,
-    room: u16,
-) -> Arrived {
-    let start = place as usize * PART;
-    let end = start + room as usize;
-    if buffers.len() < end {
-        return table.arrive(id, bytes, buffers);
-    }
-    table.arrive(id, bytes, &mut buffers[start..end])
 }

@@ -1,6 +1,0 @@
--- Each turn opens a place more.
-use Rattle.std.proofs.Common.{◌-◌}
-use Rattle.eight.proofs.ways.opening.Given as goal
-
-abbrev pub decreases-loop-unit : goal.decreases-loop-unit
-decreases-loop-unit l = 8 - l.unit

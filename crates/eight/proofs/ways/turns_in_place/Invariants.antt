@@ -1,6 +1,0 @@
--- Each turn takes a frame more.
-use Rattle.std.proofs.Common.{◌-◌}
-use Rattle.eight.proofs.ways.turns_in_place.Given as goal
-
-abbrev pub decreases-loop-k : goal.decreases-loop-k
-decreases-loop-k l = l.end - l.k
