@@ -19,8 +19,8 @@
 // An end that answered 8 is closed: it does nothing more, and frames that arrive there change nothing. When both are closed, the
 // next call comes to two fresh ends with empty links, a restart. With r restarts before it the near end's key is
 // (777 + SEED + 4999 * r) mod 65536, and the far end's is 12345 more, mod 65536: end.rt has the messages.
+use crate::Text;
 use crate::end::{Call, End, Sent, Tally};
-use crate::line::Line;
 use std::fmt;
 use std::fmt::Write;
 use text::reading;
@@ -57,7 +57,7 @@ pub(crate) fn is_run(line: &[u8]) -> bool {
 }
 
 // Plays the run that a line asks for, and writes what is said of it.
-pub(crate) fn answer(line: &[u8], text: &mut Line) {
+pub(crate) fn answer(line: &[u8], text: &mut Text) {
     match read(line) {
         Some(asked) => {
             let bench = play(asked);

@@ -17,19 +17,19 @@
 #![tactic(auto)]
 
 use crate::end::{Fate, GAP, WAIT, arrived, parameters};
-use crate::line::Line;
 use channel::{Answer, Channel};
 use receiver::Taking;
 use std::fmt::Write;
 use std::{array, mem};
+use telegram::cutting::Message;
 use telegram::payload::Payload;
 use text::input::read_full;
+use text::line::Line;
 use text::output::Output;
 use text::reading;
 
 mod both;
 mod end;
-mod line;
 mod queue;
 
 // T_WAIT, in tenths of a millisecond.
@@ -37,6 +37,9 @@ const HOLD: u32 = 2000;
 
 // The longest message, and the buffer of either end.
 const ROOM: usize = 120;
+
+// A line of output, which has room for the longest: what is said of a run.
+type Text = Line<1024>;
 
 // The two ends, and the link from either to the other, which holds at most one frame.
 #[derive(Clone, Copy)]
@@ -57,7 +60,7 @@ struct Bench {
     message: [u8; ROOM],
     // What either end writes to.
     buffer: [u8; ROOM],
-    line: Line,
+    line: Text,
     output: Output,
 }
 
@@ -99,7 +102,7 @@ impl Bench {
             ends: Ends::fresh(),
             message: array::from_fn(|i| (i % 256) as u8),
             buffer: [0; ROOM],
-            line: Line::empty(),
+            line: Text::default(),
             output: Output::fresh(),
         }
     }
@@ -108,7 +111,7 @@ impl Bench {
     fn play<R: Print + Eprint>(&mut self, rt: &R, text: &[u8]) {
         let run = text.strip_suffix(b"\n").unwrap_or(text);
         if both::is_run(run) {
-            self.line = Line::empty();
+            self.line = Text::default();
             both::answer(run, &mut self.line);
             self.say(rt);
             return;
@@ -128,7 +131,7 @@ impl Bench {
 
     // A call, and its line.
     fn letter<R: Print + Eprint>(&mut self, rt: &R, c: u8) {
-        self.line = Line::empty();
+        self.line = Text::default();
         self.line.put(&[c]);
         if c != b'\n' {
             self.call(c);
@@ -173,8 +176,10 @@ impl Bench {
         self.tell(d.answer);
         if d.given {
             self.ends.forward = Some(d.payload);
-            self.line
-                .put_pairs(reading::part(&d.payload.bytes, 0, d.payload.len));
+            put_pairs(
+                &mut self.line,
+                reading::part(&d.payload.bytes, 0, d.payload.len),
+            );
         }
     }
 
@@ -220,9 +225,12 @@ impl Bench {
         self.ends.far.receiver = t.receiver;
         match t.note {
             Taking::Shown => {
-                self.line.put_flags(t.message.flags);
-                let len = t.message.length as usize;
-                self.line.put_pairs(reading::part(&self.buffer, 0, len));
+                let Message { length, flags } = t.message;
+                put_flags(&mut self.line, flags);
+                put_pairs(
+                    &mut self.line,
+                    reading::part(&self.buffer, 0, length as usize),
+                );
             }
             Taking::NoneComplete => self.line.put(b" none"),
             Taking::ShortBuffer => self.line.put(b" short"),
@@ -235,5 +243,20 @@ impl Bench {
         if let Answer::Done = answer {
             self.line.put(b" done");
         }
+    }
+}
+
+// Bytes as pairs of digits, a blank before each.
+fn put_pairs(line: &mut Text, bytes: &[u8]) {
+    for b in bytes {
+        let _ = write!(line, " {b:02X}");
+    }
+}
+
+// A message's flags, if they are not 0.
+fn put_flags(line: &mut Text, flags: u16) {
+    let flags = flags % 16;
+    if flags != 0 {
+        let _ = write!(line, " flags {flags:X}");
     }
 }

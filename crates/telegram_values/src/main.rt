@@ -13,16 +13,20 @@
 //     z  the same of 1,024 zeros
 #![tactic(auto)]
 
-ghost use Rattle.std.specs.Prelude.{◌≤◌, length};
-
 use opening::{ReplyError, Request};
+use std::fmt;
+use std::fmt::Write;
 use telegram::cutting::Message;
 use telegram::kinds::{Parameters, Sorted, Telegram};
 use telegram::payload::Payload;
 use telegram::{cutting, kinds, time};
 use text::input::read_full;
+use text::line::Line;
 use text::output::Output;
-use text::{reading, writing};
+use text::reading;
+
+// What is said of a value.
+type Found = Line<256>;
 
 fn main(rt: HostRuntime) {
     let mut text = [0u8; 65536];
@@ -33,70 +37,50 @@ fn main(rt: HostRuntime) {
 // Answers line by line, until one cannot be written.
 fn lines<R: Print + Eprint>(rt: &R, text: &[u8]) {
     let mut output = Output::fresh();
-    let mut at = 0;
-    while at < text.len() {
-        let end = find(text, at, b'\n');
-        output = line(rt, output, &text[at..end]);
+    for text in text.split(|c| *c == b'\n') {
+        output = line(rt, output, text);
         if output.failed {
             return;
         }
-        at = end + 1;
     }
-}
-
-// Where a character stands first from a place on, or the text's end.
-fn find(text: &[u8], from: usize, c: u8) -> usize
-    requires { from ≤ length text.now }
-    ensures from { from ≤ result }
-    ensures within { result ≤ length text.now }
-{
-    let mut i = from;
-    while i < text.len() {
-        if text[i] == c {
-            return i;
-        }
-        i += 1;
-    }
-    i
 }
 
 fn line<R: Print + Eprint>(rt: &R, output: Output, text: &[u8]) -> Output {
-    let colon = find(text, 0, b':');
+    let Some(colon) = text.iter().position(|c| *c == b':') else {
+        return output;
+    };
     if colon < 2 {
         return output;
     }
-    if text.len() <= colon {
-        return output;
-    }
     let rest = colon + 1;
-    let mut found = [0u8; 256];
-    let at = writing::bytes(&mut found, 0, &text[2..rest]);
-    let at = run(&mut found, at, text[0], &text[rest..]);
-    let end = writing::byte(&mut found, at, b'\n');
-    output.say(rt, reading::part(&found, 0, end))
+    let mut found = Found::default();
+    found.put(&text[2..rest]);
+    let _ = run(&mut found, text[0], &text[rest..]);
+    found.put(b"\n");
+    output.say(rt, found.text())
 }
 
 // Runs a value of pairs of digits.
-fn run(text: &mut [u8], at: usize, what: u8, pairs: &[u8]) -> usize {
+fn run(found: &mut Found, what: u8, pairs: &[u8]) -> fmt::Result {
     let mut value = [0u8; 32];
     let Ok(n) = reading::pairs(pairs, &mut value) else {
-        return writing::bytes(text, at, b" no bytes");
+        return write!(found, " no bytes");
     };
-    found(text, at, what, reading::part(&value, 0, n))
+    find(found, what, reading::part(&value, 0, n))
 }
 
-fn found(text: &mut [u8], at: usize, what: u8, s: &[u8]) -> usize {
+fn find(found: &mut Found, what: u8, s: &[u8]) -> fmt::Result {
     match what {
-        b't' => number(text, at, time::tenths(byte_at(s, 0)) as u64),
-        b'm' => number(text, at, cutting::limit() as u64),
-        b'f' => number(text, at, cutting::frames(pair(s) as usize) as u64),
-        b'l' => declared(text, at, cutting::declared(byte_at(s, 0), byte_at(s, 1))),
-        b's' => sorted(text, at, kinds::sort(s)),
-        b'q' => request(text, at, opening::read_request(s)),
-        b'r' => reply(text, at, opening::read_reply(behind(s, 2), pair(s))),
-        b'w' => payload(text, at, write(s)),
-        b'c' => payload(text, at, cut(behind(s, 3), s)),
-        _ => payload(text, at, cut(&[0u8; 1024], s)),
+        b't' => number(found, time::tenths(byte_at(s, 0)) as u64),
+        b'm' => number(found, cutting::limit() as u64),
+        b'f' => number(found, cutting::frames(pair(s) as usize) as u64),
+        b'l' => declared(found, cutting::declared(byte_at(s, 0), byte_at(s, 1))),
+        b's' => sorted(found, kinds::sort(s)),
+        b'q' => request(found, opening::read_request(s)),
+        b'r' => reply(found, opening::read_reply(behind(s, 2), pair(s))),
+        b'w' => payload(found, write(s)),
+        b'c' => payload(found, cut(behind(s, 3), s)),
+        _ => payload(found, cut(&[0u8; 1024], s)),
     }
 }
 
@@ -107,19 +91,17 @@ fn cut(message: &[u8], s: &[u8]) -> Payload {
 
 // Zero past the end.
 fn byte_at(s: &[u8], i: usize) -> u8 {
-    if i < s.len() { s[i] } else { 0 }
+    s.get(i).copied().unwrap_or(0)
 }
 
 // The number that the first two bytes make, high first.
 fn pair(s: &[u8]) -> u16 {
-    256 * (byte_at(s, 0) as u16) + byte_at(s, 1) as u16
+    u16::from_be_bytes([byte_at(s, 0), byte_at(s, 1)])
 }
 
+// What stands behind so many bytes, and all of it where there are fewer.
 fn behind(s: &[u8], i: usize) -> &[u8] {
-    if i <= s.len() {
-        return &s[i..];
-    }
-    s
+    s.get(i..).unwrap_or(s)
 }
 
 fn write(s: &[u8]) -> Payload {
@@ -140,101 +122,83 @@ fn write(s: &[u8]) -> Payload {
     }
 }
 
-fn number(text: &mut [u8], at: usize, n: u64) -> usize {
-    let at = writing::byte(text, at, b' ');
-    writing::decimal(text, at, n)
+fn number(found: &mut Found, n: u64) -> fmt::Result {
+    write!(found, " {n}")
 }
 
-fn declared(text: &mut [u8], at: usize, m: Message) -> usize {
-    let at = number(text, at, m.length as u64);
-    writing::flags(text, at, (m.flags % 16) as u8)
+fn declared(found: &mut Found, message: Message) -> fmt::Result {
+    let Message { length, flags } = message;
+    write!(found, " {length}")?;
+    match flags % 16 {
+        0 => Ok(()),
+        flags => write!(found, " flags {flags:X}"),
+    }
 }
 
-fn byte(text: &mut [u8], at: usize, b: u8) -> usize {
-    let at = writing::byte(text, at, b' ');
-    writing::pair(text, at, b)
+fn sorted(found: &mut Found, sorted: Sorted) -> fmt::Result {
+    kind(found, sorted.kind)?;
+    if sorted.padded {
+        write!(found, ", padded")?;
+    }
+    Ok(())
 }
 
-fn id(text: &mut [u8], at: usize, i: u16) -> usize {
-    let at = writing::byte(text, at, b' ');
-    writing::id(text, at, i)
-}
-
-fn sorted(text: &mut [u8], at: usize, t: Sorted) -> usize {
-    let k = t.kind;
-    let at = kind(text, at, k);
-    writing::bytes_if(text, at, t.padded, b", padded")
-}
-
-fn kind(text: &mut [u8], at: usize, k: Telegram) -> usize {
-    match k {
-        Telegram::Data {
-            asks,
-            last,
-            number: n,
-        } => {
-            let at = writing::bytes(text, at, b" data, number");
-            let at = number(text, at, n as u64);
-            let at = writing::bytes_if(text, at, asks, b", asks for an Ack");
-            writing::bytes_if(text, at, last, b", last")
+fn kind(found: &mut Found, kind: Telegram) -> fmt::Result {
+    match kind {
+        Telegram::Data { asks, last, number } => {
+            write!(found, " data, number {number}")?;
+            if asks {
+                write!(found, ", asks for an Ack")?;
+            }
+            if last {
+                write!(found, ", last")?;
+            }
+            Ok(())
         }
-        Telegram::Ack { ready, number: n } => {
-            let at = writing::bytes(text, at, b" Ack, number");
-            let at = number(text, at, n as u64);
-            let at = writing::bytes_if(text, at, ready, b", ready");
-            writing::bytes_if(text, at, !ready, b", not ready")
+        Telegram::Ack { ready, number } => {
+            write!(found, " Ack, number {number}")?;
+            write!(found, "{}", if ready { ", ready" } else { ", not ready" })
         }
-        Telegram::Test => writing::bytes(text, at, b" test"),
-        Telegram::Break => writing::bytes(text, at, b" break"),
-        Telegram::Disconnect => writing::bytes(text, at, b" disconnect"),
+        Telegram::Test => write!(found, " test"),
+        Telegram::Break => write!(found, " break"),
+        Telegram::Disconnect => write!(found, " disconnect"),
         Telegram::Setup(p) => {
-            let at = writing::bytes(text, at, b" set-up");
-            parameters(text, at, p)
+            write!(found, " set-up")?;
+            parameters(found, p)
         }
         Telegram::Accept(p) => {
-            let at = writing::bytes(text, at, b" acceptance");
-            parameters(text, at, p)
+            write!(found, " acceptance")?;
+            parameters(found, p)
         }
-        Telegram::Malformed => writing::bytes(text, at, b" malformed"),
+        Telegram::Malformed => write!(found, " malformed"),
     }
 }
 
-fn parameters(text: &mut [u8], at: usize, p: Parameters) -> usize {
-    let at = writing::bytes(text, at, b", block size");
-    let at = number(text, at, p.block as u64);
-    let at = writing::bytes(text, at, b", T1");
-    let at = byte(text, at, p.t1);
-    let at = writing::bytes(text, at, b", T3");
-    byte(text, at, p.t3)
+fn parameters(found: &mut Found, parameters: Parameters) -> fmt::Result {
+    let Parameters { block, t1, t3 } = parameters;
+    write!(found, ", block size {block}, T1 {t1:02X}, T3 {t3:02X}")
 }
 
-fn request(text: &mut [u8], at: usize, r: Option<Request>) -> usize {
-    match r {
+fn request(found: &mut Found, request: Option<Request>) -> fmt::Result {
+    match request {
         Some(Request { unit, receive }) => {
-            let at = writing::bytes(text, at, b" unit");
-            let at = byte(text, at, unit);
-            let at = writing::bytes(text, at, b", receive ID");
-            id(text, at, receive)
+            write!(found, " unit {unit:02X}, receive ID {receive:03X}")
         }
-        None => writing::bytes(text, at, b" malformed"),
+        None => write!(found, " malformed"),
     }
 }
 
-fn reply(text: &mut [u8], at: usize, r: Result<u16, ReplyError>) -> usize {
-    match r {
-        Ok(transmit) => {
-            let at = writing::bytes(text, at, b" positive, transmit ID");
-            id(text, at, transmit)
-        }
-        Err(ReplyError::Refused(opcode)) => {
-            let at = writing::bytes(text, at, b" refused by");
-            byte(text, at, opcode)
-        }
-        Err(ReplyError::Malformed) => writing::bytes(text, at, b" malformed"),
+fn reply(found: &mut Found, reply: Result<u16, ReplyError>) -> fmt::Result {
+    match reply {
+        Ok(transmit) => write!(found, " positive, transmit ID {transmit:03X}"),
+        Err(ReplyError::Refused(opcode)) => write!(found, " refused by {opcode:02X}"),
+        Err(ReplyError::Malformed) => write!(found, " malformed"),
     }
 }
 
-fn payload(text: &mut [u8], at: usize, p: Payload) -> usize {
-    let bytes = p.bytes;
-    writing::pairs(text, at, reading::part(&bytes, 0, p.len))
+fn payload(found: &mut Found, payload: Payload) -> fmt::Result {
+    for b in reading::part(&payload.bytes, 0, payload.len) {
+        write!(found, " {b:02X}")?;
+    }
+    Ok(())
 }

@@ -5,6 +5,7 @@
 #![tactic(auto)]
 
 pub mod input;
+pub mod line;
 pub mod output;
 pub mod reading;
 pub mod writing;
