@@ -275,9 +275,7 @@ fn is_message(bytes: &[u8], key: u64, k: u64) -> bool {
 
 // The message that a take would show; length 0 if it would show none.
 fn waiting(channel: Channel) -> Message {
-    let receiver = channel.receiver;
-    let t = receiver.take(ROOM);
-    t.message
+    channel.receiver.take(ROOM).message.unwrap_or(NONE)
 }
 
 // Whether the repeats are used up when this time has passed.
@@ -434,12 +432,7 @@ impl End {
         if !self.live {
             return self;
         }
-        let mut channel = self.channel;
-        let receiver = channel.receiver;
-        let t = receiver.take(ROOM);
-        let next = t.receiver;
-        channel.receiver = next;
-        self.channel = channel;
+        self.channel.receiver = self.channel.receiver.take(ROOM).receiver;
         self
     }
 

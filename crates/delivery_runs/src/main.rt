@@ -20,8 +20,9 @@ ghost use Rattle.std.specs.Prelude.{◌<◌, ◌≤◌, length};
 
 use crate::end::arrived;
 use channel::{Answer, Channel, Parameters};
-use receiver::Taking;
+use receiver::{TakeError, Took};
 use sender::Terms;
+use telegram::cutting::Message;
 use telegram::kinds;
 use telegram::payload::Payload;
 use text::input::read_full;
@@ -412,24 +413,25 @@ fn pass(mut ends: Ends, tenths: u64, line: &mut [u8]) -> Ends {
 }
 
 fn take(mut ends: Ends, buffer: &[u8], line: &mut [u8]) -> Ends {
-    let mut far = ends.far;
-    let receiver = far.receiver;
-    let t = receiver.take(buffer.len());
-    let note = t.note;
-    let message = t.message;
-    let next = t.receiver;
-    far.receiver = next;
-    ends.far = far;
-    let bytes = reading::part(buffer, 0, message.length as usize);
-    ends.at = tell_taking(line, ends.at, note, message.flags, bytes);
+    let Took { message, receiver } = ends.far.receiver.take(buffer.len());
+    ends.far.receiver = receiver;
+    ends.at = tell_taking(line, ends.at, message, buffer);
     ends
 }
 
-fn tell_taking(line: &mut [u8], at: usize, note: Taking, flags: u16, bytes: &[u8]) -> usize {
-    match note {
-        Taking::Shown => tell_message(line, at, flags, bytes),
-        Taking::NoneComplete => writing::bytes(line, at, b" none"),
-        Taking::ShortBuffer => writing::bytes(line, at, b" short"),
+fn tell_taking(
+    line: &mut [u8],
+    at: usize,
+    taking: Result<Message, TakeError>,
+    buffer: &[u8],
+) -> usize {
+    match taking {
+        Ok(message) => {
+            let bytes = reading::part(buffer, 0, message.length as usize);
+            tell_message(line, at, message.flags, bytes)
+        }
+        Err(TakeError::NoneComplete) => writing::bytes(line, at, b" none"),
+        Err(TakeError::ShortBuffer) => writing::bytes(line, at, b" short"),
     }
 }
 
