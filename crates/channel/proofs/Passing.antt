@@ -7,10 +7,8 @@ use mathlib.Core.Path.{◌≡◌, refl, sym, ◌∙◌}
 use lib.Dec.{eqb, leb}
 use borrow.Author.Tests.{eqb-false, leb-true, not-true, ne_eqb, le-leb}
 use Rattle.laws.proofs.Cases.{by, by-not, by_le, both}
-use Rattle.sender.specs.Sending.{passed, offered}
+use Rattle.sender.specs.Sending.{passed, offered, Offer, Accepted, Busy as InSending, BadLength as NotSent}
 use Rattle.sender.specs.declared.Sender.{Sender}
-use Rattle.sender.specs.declared.Offer.{Offer}
-use Rattle.sender.specs.declared.Offer.TheVariants.{Accepted, Busy as InSending, BadLength as NotSent}
 use Rattle.sender.specs.declared.Offered.{Offered}
 use Rattle.sender.specs.declared.Passing.{Passing}
 use Rattle.sender.specs.declared.Passing.TheVariants.{Quiet, Again, UsedUp as RanOut}

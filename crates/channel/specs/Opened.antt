@@ -3,10 +3,8 @@ use Rattle.std.specs.Prelude.{ℕ, ◌+◌, ◌-◌, Bool, true, false, not, ◌
 use Rattle.telegram.specs.Outgoing.{payload_of}
 use Rattle.telegram.specs.Kinds.{ack_of, test_of, accept_of}
 use Rattle.telegram.specs.declared.payload.Payload.{Payload}
-use Rattle.sender.specs.Sending.{offered, passed, handed, unacknowledged, fresh as fresh_sender}
+use Rattle.sender.specs.Sending.{offered, passed, handed, unacknowledged, fresh as fresh_sender, Offer, Accepted, Busy as InSending, BadLength as NotSent}
 use Rattle.sender.specs.declared.Sender.{Sender}
-use Rattle.sender.specs.declared.Offer.{Offer}
-use Rattle.sender.specs.declared.Offer.TheVariants.{Accepted, Busy as InSending, BadLength as NotSent}
 use Rattle.sender.specs.declared.Passing.{Passing}
 use Rattle.sender.specs.declared.Passing.TheVariants.{Quiet, Again, UsedUp as RanOut}
 use Rattle.sender.specs.declared.Handing.{Handing}

@@ -12,7 +12,7 @@ ghost use Rattle.channel.specs.Numbers.{plain, said};
 ghost use Rattle.channel.specs.Opened.{fresh, restarted, offer_answer, wait_ends, later, repeats_used_up, went, elapsed, test_due, hand_over, hand_nothing, hand_accept, hand_test, hand_ack, hand_data, due, sent};
 
 use receiver::{Cause, Receiver};
-use sender::{Handing, Offer, Passing, Sender, Terms};
+use sender::{Handing, OfferError, Offered, Passing, Sender, Terms};
 use telegram::kinds::{write_accept, write_ack, write_test};
 use telegram::payload::Payload;
 use telegram::time::less;
@@ -144,13 +144,13 @@ pub fn say(answer: Answer) -> Said
     }
 }
 
-fn offer_answer(note: Offer) -> Answer
+fn offer_answer(note: Result<(), OfferError>) -> Answer
     ensures { result ≡ offer_answer note }
 {
     match note {
-        Offer::Accepted => Answer::Good,
-        Offer::Busy => Answer::Busy,
-        Offer::BadLength => Answer::BadLength,
+        Ok(()) => Answer::Good,
+        Err(OfferError::Busy) => Answer::Busy,
+        Err(OfferError::BadLength) => Answer::BadLength,
     }
 }
 
@@ -261,14 +261,12 @@ impl Channel {
     }
 
     // A message of len bytes is offered.
+    #[tactic(auto, unfolding(crate::specs::Opened::sent))]
     pub fn send(mut self, len: usize) -> Answered
         ensures { result ≡ sent longest self len }
     {
-        let sender = self.sender;
-        let o = sender.offer(len);
-        let next = o.sender;
-        let note = o.note;
-        self.sender = next;
+        let Offered { note, sender } = self.sender.offer(len);
+        self.sender = sender;
         Answered {
             answer: offer_answer(note),
             channel: self,

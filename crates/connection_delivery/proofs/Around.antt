@@ -10,9 +10,7 @@ use Rattle.telegram.specs.Outgoing.{bytes_of}
 use Rattle.telegram.specs.Cutting.{none}
 use Rattle.telegram.specs.Kinds.{sorted}
 use Rattle.telegram.specs.declared.kinds.Telegram.{Telegram}
-use Rattle.receiver.specs.Receiving.{took}
-use Rattle.receiver.specs.declared.Taking.{Taking}
-use Rattle.receiver.specs.declared.Taking.TheVariants.{Shown, NoneComplete, ShortBuffer}
+use Rattle.receiver.specs.Receiving.{took, Taking, Shown, NoneComplete, ShortBuffer}
 use Rattle.channel.specs.declared.Channel.{Channel}
 use Rattle.channel.specs.declared.Answer.{Answer}
 use Rattle.channel.specs.declared.Answer.TheVariants.{Good, NotDue}
@@ -74,7 +72,7 @@ pub record Around (limit : ℕ) (carried : Telegram → Type 0) (Kept : Channel 
 
 -- a take's number
 take-number : (n : Taking) → (said (take_answer n)).number ≡ take_number n
-take-number Shown = refl
+take-number (Shown m) = refl
 take-number NoneComplete = refl
 take-number ShortBuffer = refl
 
@@ -122,7 +120,7 @@ module _ (limit : ℕ) {carried : Telegram → Type 0} {Kept : Channel → Type 
   take-shows (open' x o k) room =
       let a = around x o in
       let kept = keeps.takes a.end.channel (subst Kept a.channel k) room in
-      rw (a.takes room, a.channel) (record { number = take-number (took a.end.channel.receiver room).note; message = refl; tied = a.goes_on _ kept })
+      rw (a.takes room, a.channel) (record { number = take-number (took a.end.channel.receiver room).message; message = refl; tied = a.goes_on _ kept })
   take-shows (closed f) room = rw (f.takes room) (record { number = refl; message = refl; tied = closed f })
 
   -- time passes

@@ -1,5 +1,6 @@
 -- A frame that comes to the near end of a system, by its kind and its fate: what that is to each direction.
 use Rattle.std.specs.Prelude.{if◌then◌else◌}
+use Rattle.std.specs.Result.{result_unwrap_or}
 use Prim.Native.Nat.{ℕ}
 use mathlib.Core.Bool.{Bool, true, false, not, ◌&&◌, true≢false}
 use mathlib.Core.List.{List, [], ◌∷◌, ◌++◌, append-nil}
@@ -16,6 +17,7 @@ use Rattle.sender.specs.declared.Heard.{Heard}
 use Rattle.sender.specs.declared.Hearing.{Hearing}
 use Rattle.sender.specs.declared.Hearing.TheVariants.{Part, Done as LastAcknowledged, Held, Nothing, UsedUp as NotReadyTooOften, NoAck}
 use Rattle.sender.proofs.Acks.{heard-ack}
+use Rattle.telegram.specs.Cutting.{none as no_message}
 use Rattle.receiver.specs.Receiving.{on_data, buffered}
 use Rattle.receiver.specs.declared.Receiver.{Receiver}
 use Rattle.receiver.specs.declared.Took.{Took}
@@ -68,7 +70,7 @@ abbrev pub line_shown : Line → List ℕ → List ShownMessage
 line_shown l b = if l.live then shown_in l.channel.receiver b else []
 
 shown-noted : (r : Receiver) (b : List ℕ) {t : Took} → TakeOutcome r (length b) t
-    → (if eqb (take_number t.note) 0 then shown_of t.message b ∷ [] else []) ≡ shown_by t.note (shown_of r.complete b)
+    → (if eqb (take_number t.message) 0 then shown_of (result_unwrap_or t.message no_message) b ∷ [] else []) ≡ shown_by t.message (shown_of r.complete b)
 shown-noted r b (none-complete w) = refl
 shown-noted r b (short-buffer w s) = refl
 shown-noted r b (shows w s) = refl

@@ -19,13 +19,13 @@ use Rattle.delivery.proofs.Directions.{held_in, Room}
 
 -- what a take shows of a receiver
 abbrev pub shown_in : Receiver → List ℕ → List ShownMessage
-shown_in r b = shown_by (took r (length b)).note (shown_of r.complete b)
+shown_in r b = shown_by (took r (length b)).message (shown_of r.complete b)
 
 -- with room for it that is what waits
 pub shown-held : (r : Receiver) (b : List ℕ) → Room r b → shown_in r b ≡ held_in r b
 shown-held r b room = go (take-outcome r (length b))
   where
-    go : {t : Took} → TakeOutcome r (length b) t → shown_by t.note (shown_of r.complete b) ≡ held_in r b
+    go : {t : Took} → TakeOutcome r (length b) t → shown_by t.message (shown_of r.complete b) ≡ held_in r b
     go (none-complete w) = rw w
     go (short-buffer w short) = let fits = room (ltb-true 0 r.complete.length w) in absurd (omega arith)
     go (shows w fits) = rw w

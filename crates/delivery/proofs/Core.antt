@@ -7,11 +7,9 @@ use mathlib.Core.Bool.{Bool, true, false, not}
 use mathlib.Core.List.{List, [], ◌∷◌, ◌++◌}
 use lib.ListN.{length, take, drop}
 use Rattle.telegram.specs.Cutting.{stream_of, last_at, asks_at}
-use Rattle.sender.specs.Sending.{offered, on_ack, passed, handed, first_number}
+use Rattle.sender.specs.Sending.{offered, on_ack, passed, handed, first_number, Offer, Accepted, Busy as InSending, BadLength as NotSent}
 use Rattle.sender.specs.declared.Terms.{Terms}
 use Rattle.sender.specs.declared.Sender.{Sender}
-use Rattle.sender.specs.declared.Offer.{Offer}
-use Rattle.sender.specs.declared.Offer.TheVariants.{Accepted, Busy as InSending, BadLength as NotSent}
 use Rattle.sender.specs.declared.Offered.{Offered}
 use Rattle.sender.specs.declared.Heard.{Heard}
 use Rattle.sender.specs.declared.Passing.{Passing}
@@ -20,11 +18,9 @@ use Rattle.sender.specs.declared.Passed.{Passed}
 use Rattle.sender.specs.declared.Handing.{Handing}
 use Rattle.sender.specs.declared.Handing.TheVariants.{Frame, Nothing as NoFrame, OtherLength}
 use Rattle.sender.specs.declared.Handed.{Handed}
-use Rattle.receiver.specs.Receiving.{on_data, buffered, took, ack_handed}
+use Rattle.receiver.specs.Receiving.{on_data, buffered, took, ack_handed, Taking, Shown, NoneComplete, ShortBuffer}
 use Rattle.receiver.specs.declared.Receiver.{Receiver}
 use Rattle.receiver.specs.declared.Received.{Received}
-use Rattle.receiver.specs.declared.Taking.{Taking}
-use Rattle.receiver.specs.declared.Taking.TheVariants.{Shown, NoneComplete, ShortBuffer}
 use Rattle.receiver.specs.declared.Took.{Took}
 use Rattle.channel.specs.declared.Answer.{Answer}
 use Rattle.channel.specs.declared.Answer.TheVariants.{Good, UsedUp}
@@ -265,12 +261,12 @@ receiving limit lost (f ∷ l) d = with_frames d l (losing d.history true f.try)
 
 -- what a take shows
 abbrev pub shown_by : Taking → ShownMessage → List ShownMessage
-shown_by Shown m = m ∷ []
+shown_by (Shown shown) m = m ∷ []
 shown_by NoneComplete m = []
 shown_by ShortBuffer m = []
 
 abbrev pub took_to : Direction → Took → Direction
-took_to d g = with_receiving d g.receiver d.buffer (handing d.history (shown_by g.note (shown_of d.receiver.complete d.buffer)))
+took_to d g = with_receiving d g.receiver d.buffer (handing d.history (shown_by g.message (shown_of d.receiver.complete d.buffer)))
 
 -- the due Ack handed over
 abbrev pub with_ack : Direction → Direction

@@ -7,10 +7,8 @@ use mathlib.Core.List.{List, [], ◌∷◌, ◌++◌}
 use mathlib.Core.Path.{◌≡◌, refl, sym, subst, ◌∙◌}
 use lib.ListN.{length, get_or}
 use Rattle.laws.proofs.Cases.{by}
-use Rattle.sender.specs.Sending.{offered, handed}
+use Rattle.sender.specs.Sending.{offered, handed, Offer, Accepted, Busy as InSending, BadLength as NotSent}
 use Rattle.sender.specs.declared.Sender.{Sender}
-use Rattle.sender.specs.declared.Offer.{Offer}
-use Rattle.sender.specs.declared.Offer.TheVariants.{Accepted, Busy as InSending, BadLength as NotSent}
 use Rattle.sender.specs.declared.Heard.{Heard}
 use Rattle.sender.specs.declared.Passed.{Passed}
 use Rattle.sender.specs.declared.Handing.{Handing}

@@ -1,5 +1,6 @@
 -- Each call at the near end of a system does to each direction exactly one move of the core, or nothing; and so, with the system turned round, at the far end.
 use Rattle.std.specs.Prelude.{if◌then◌else◌}
+use Rattle.std.specs.Result.{result_unwrap_or}
 use Prim.Native.Nat.{ℕ}
 use native.Mathlib.Omega.{arith}
 use mathlib.Core.Bool.{Bool, true, false, true≢false, or-false}
@@ -14,7 +15,7 @@ use Rattle.telegram.specs.declared.kinds.Sorted.{Sorted}
 use Rattle.telegram.specs.declared.kinds.Telegram.{Telegram}
 use Rattle.telegram.specs.declared.kinds.Telegram.TheVariants.{Data, Test, Accept}
 use Rattle.telegram.proofs.RoundTrip.{frame-sorted, frame-carries, test-sorted, accept-sorted}
-use Rattle.telegram.specs.Cutting.{frame_at}
+use Rattle.telegram.specs.Cutting.{none as no_message, frame_at}
 use Rattle.telegram.specs.declared.payload.Payload.{Payload}
 use Rattle.sender.specs.Sending.{offered, passed, handed, first_number}
 use Rattle.sender.proofs.Frames.{handed-exactly, handed-frame}
@@ -137,7 +138,7 @@ module _ (limit : ℕ) (carried : Telegram → Type 0) (N F : End) (R : N.State 
       go : {o : Took} → TakeOutcome nc.receiver (length b) o → took nc.receiver (length b) ≡ o
           → R r.state (record { channel = with_receiver nc o.receiver; live = true })
           → Acted limit carried R receive transmit (line nc true) f takes sys
-          (with-near r.state h (handing k (if eqb (take_number o.note) 0 then shown_of o.message b ∷ [] else [])))
+          (with-near r.state h (handing k (if eqb (take_number o.message) 0 then shown_of (result_unwrap_or o.message no_message) b ∷ [] else [])))
       go (none-complete w) e t = acted-of rest taken t refl (sym (ap (took_to (coming (line nc true) k)) e)) takes_one (λ c. rw (append-nil k.handed_out) c) refl refl (λ _ z. z)
       go (short-buffer w s) e t = acted-of rest taken t refl (sym (ap (took_to (coming (line nc true) k)) e)) takes_one (λ c. rw (append-nil k.handed_out) c) refl refl (λ _ z. z)
       go (shows w s) e t = acted-of rest taken t refl (sym (ap (took_to (coming (line nc true) k)) e)) takes_one (λ c. (rw w at c) ∙ sym (append-nil _)) refl refl (λ _ z. z)

@@ -1,11 +1,10 @@
 -- A bare channel as an end: what the other ends are held to (Laws.antt), and an end by itself.
 use Rattle.std.specs.Prelude.{ℕ, Bool, true, false, not, List, [], drop, if◌then◌else◌}
+use Rattle.std.specs.Result.{result_unwrap_or}
 use Rattle.telegram.specs.Outgoing.{bytes_of}
 use Rattle.telegram.specs.Kinds.{sorted}
 use Rattle.telegram.specs.Cutting.{none}
-use Rattle.receiver.specs.Receiving.{took}
-use Rattle.receiver.specs.declared.Taking.{Taking}
-use Rattle.receiver.specs.declared.Taking.TheVariants.{Shown, NoneComplete, ShortBuffer}
+use Rattle.receiver.specs.Receiving.{took, Taking, Shown, NoneComplete, ShortBuffer}
 use Rattle.channel.specs.declared.Channel.{Channel}
 use Rattle.channel.specs.declared.Answer.{Answer}
 use Rattle.channel.specs.declared.Answer.TheVariants.{Good, NotDue}
@@ -41,7 +40,7 @@ line_time l n = if l.live then (let r = elapsed l.channel n in answers r.channel
 
 -- the number of a take's answer: 0, or row 5 or 7
 abbrev pub take_number : Taking → ℕ
-take_number Shown = 0
+take_number (Shown m) = 0
 take_number NoneComplete = 5
 take_number ShortBuffer = 7
 
@@ -51,7 +50,7 @@ line_take l room =
     if l.live
     then
     (let t = took l.channel.receiver room in
-    record { number = take_number t.note; message = t.message; state = record { channel = with_receiver l.channel t.receiver; live = true } })
+    record { number = take_number t.message; message = result_unwrap_or t.message none; state = record { channel = with_receiver l.channel t.receiver; live = true } })
     else record { number = (said NotDue).number; message = none; state = l }
 
 -- what is due: nothing if closed

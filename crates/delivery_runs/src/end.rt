@@ -385,7 +385,7 @@ impl End {
         if !self.live {
             return NONE;
         }
-        self.channel.receiver.take(ROOM).message
+        self.channel.receiver.take(ROOM).message.unwrap_or(NONE)
     }
 
     // The next message is offered.

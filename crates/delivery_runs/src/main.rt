@@ -18,7 +18,7 @@
 
 use crate::end::{Fate, GAP, WAIT, arrived, parameters};
 use channel::{Answer, Channel};
-use receiver::Taking;
+use receiver::TakeError;
 use std::fmt::Write;
 use std::{array, mem};
 use telegram::cutting::Message;
@@ -223,17 +223,16 @@ impl Bench {
     fn take(&mut self) {
         let t = self.ends.far.receiver.take(ROOM);
         self.ends.far.receiver = t.receiver;
-        match t.note {
-            Taking::Shown => {
-                let Message { length, flags } = t.message;
+        match t.message {
+            Ok(Message { length, flags }) => {
                 put_flags(&mut self.line, flags);
                 put_pairs(
                     &mut self.line,
                     reading::part(&self.buffer, 0, length as usize),
                 );
             }
-            Taking::NoneComplete => self.line.put(b" none"),
-            Taking::ShortBuffer => self.line.put(b" short"),
+            Err(TakeError::NoneComplete) => self.line.put(b" none"),
+            Err(TakeError::ShortBuffer) => self.line.put(b" short"),
         }
     }
 

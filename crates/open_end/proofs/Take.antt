@@ -3,6 +3,7 @@ use Prim.Native.Nat.{ℕ, ◌≤◌, zero-le}
 use native.Mathlib.Omega.{arith}
 use mathlib.Core.Bool.{false}
 use mathlib.Core.Path.{◌≡◌, refl}
+use Rattle.std.specs.Result.{result_unwrap_or}
 use Rattle.telegram.specs.Cutting.{none}
 use Rattle.receiver.specs.Receiving.{waiting}
 use Rattle.receiver.specs.declared.Receiver.{Receiver}
@@ -34,7 +35,7 @@ module _ (e : OpenEnd) (room : ℕ) where
   taken-leaves = go (take-outcome r room)
     where
       go : {t : Took} → TakeOutcome r room t
-          → Leaves (record { answer = take_answer t.note; message = t.message; end = with_channel e (with_receiver e.channel t.receiver) })
+          → Leaves (record { answer = take_answer t.message; message = result_unwrap_or t.message none; end = with_channel e (with_receiver e.channel t.receiver) })
       go (none-complete w) = refused Busy (λ z. omega arith)
       go (short-buffer w short) = refused ShortBuffer (λ z. omega arith)
       go (shows w fits) = record { within = fits; shown = λ _. (refl, refl); refuses = λ other. absurd (other refl) }

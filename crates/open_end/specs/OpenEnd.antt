@@ -1,11 +1,11 @@
 -- 01, "Telegrams on an open connection": what an end does once it is open, by its telegrams and on its two CAN IDs.
 use Rattle.std.specs.Prelude.{ℕ, Bool, List, [], drop, eqb, if◌then◌else◌}
+use Rattle.std.specs.Result.{result_unwrap_or}
 use Rattle.telegram.specs.Outgoing.{payload_of}
+use Rattle.telegram.specs.Cutting.{none}
 use Rattle.telegram.specs.declared.kinds.Telegram.{Telegram}
 use Rattle.telegram.specs.declared.payload.Payload.{Payload}
-use Rattle.receiver.specs.Receiving.{took}
-use Rattle.receiver.specs.declared.Taking.{Taking}
-use Rattle.receiver.specs.declared.Taking.TheVariants.{Shown, NoneComplete, ShortBuffer as ShortRoom}
+use Rattle.receiver.specs.Receiving.{took, Taking, Shown, NoneComplete, ShortBuffer as ShortRoom}
 use Rattle.channel.specs.declared.Parameters.{Parameters}
 use Rattle.channel.specs.declared.Channel.{Channel}
 use Rattle.channel.specs.declared.Answer.{Answer}
@@ -80,7 +80,7 @@ sent_at limit e n = (let r = sent limit e.channel n in record { answer = r.answe
 
 -- the answer to a take: 0, or row 5 or 7
 abbrev pub take_answer : Taking → Answer
-take_answer Shown = Good
+take_answer (Shown m) = Good
 take_answer NoneComplete = Busy
 take_answer ShortRoom = ShortBuffer
 
@@ -88,4 +88,4 @@ take_answer ShortRoom = ShortBuffer
 unfoldable pub taken_at : OpenEnd → (room : ℕ) → TakeStep
 taken_at e room =
     (let t = took e.channel.receiver room in
-    record { answer = take_answer t.note; message = t.message; end = with_channel e (with_receiver e.channel t.receiver) })
+    record { answer = take_answer t.message; message = result_unwrap_or t.message none; end = with_channel e (with_receiver e.channel t.receiver) })

@@ -9,9 +9,9 @@ ghost use Rattle.telegram.specs.Cutting.{longest};
 ghost use Rattle.open_end.specs.OpenEnd.{no_frame, no_channel, unopened, fresh_end, course_of, arrived_at, buffered_at, elapsed_at, frame_on, due_at, sent_at, take_answer, taken_at};
 
 use channel::{Channel, Parameters};
-use receiver::Taking;
+use receiver::{TakeError, Took};
 use sender::Terms;
-use telegram::cutting::Message;
+use telegram::cutting::{Message, NONE};
 use telegram::kinds::{Parameters as Fields, Telegram};
 use telegram::payload::Payload;
 
@@ -108,13 +108,13 @@ fn frame_on(id: u16, given: bool, payload: Payload) -> Frame
     no_frame()
 }
 
-fn take_answer(note: Taking) -> channel::Answer
-    ensures { result ≡ take_answer note }
+fn take_answer(taking: Result<Message, TakeError>) -> channel::Answer
+    ensures { result ≡ take_answer taking }
 {
-    match note {
-        Taking::Shown => channel::Answer::Good,
-        Taking::NoneComplete => channel::Answer::Busy,
-        Taking::ShortBuffer => channel::Answer::ShortBuffer,
+    match taking {
+        Ok(_) => channel::Answer::Good,
+        Err(TakeError::NoneComplete) => channel::Answer::Busy,
+        Err(TakeError::ShortBuffer) => channel::Answer::ShortBuffer,
     }
 }
 
@@ -236,20 +236,15 @@ impl OpenEnd {
     }
 
     // What taking a message comes to, in a lent buffer of room bytes.
+    #[tactic(auto, unfolding(crate::specs::OpenEnd::taken_at))]
     pub fn take_step(mut self, room: usize) -> TakeStep
         ensures { result ≡ taken_at self room }
     {
-        let mut ch = self.channel;
-        let receiver = ch.receiver;
-        let t = receiver.take(room);
-        let note = t.note;
-        let message = t.message;
-        let next = t.receiver;
-        ch.receiver = next;
-        self.channel = ch;
+        let Took { message, receiver } = self.channel.receiver.take(room);
+        self.channel.receiver = receiver;
         TakeStep {
-            answer: take_answer(note),
-            message,
+            answer: take_answer(message),
+            message: message.unwrap_or(NONE),
             end: self,
         }
     }

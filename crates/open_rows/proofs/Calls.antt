@@ -7,6 +7,8 @@ use mathlib.Core.Path.{◌≡◌, refl, sym, ◌∙◌}
 use lib.Dec.{ltb}
 use borrow.Author.Tests.{eq-eqb, ne_eqb, lt-ltb, le-ltb}
 use Rattle.laws.proofs.Branches.{on, off}
+use Rattle.std.specs.Result.{result_unwrap_or}
+use Rattle.telegram.specs.Cutting.{none as no_message}
 use Rattle.sender.specs.declared.Terms.{Terms}
 use Rattle.sender.specs.declared.Sender.{Sender}
 use Rattle.sender.specs.declared.Offered.{Offered}
@@ -121,7 +123,7 @@ open-send w limit e n = offered-told w limit e.channel n (offer_case limit e.cha
 
 module _ {A : Type 0} (w : Ways A) (ch : Channel) (room : ℕ) where
   taken-told : {t : Took} → TakeOutcome ch.receiver room t
-      → ◌≡◌ {A = Said × (ℕ × ℕ × A)} (said (ByChannel (take_answer t.note)), (t.message.length, t.message.flags, w.goes_on (with_receiver ch t.receiver))) (told_by (take_rows w ch room))
+      → ◌≡◌ {A = Said × (ℕ × ℕ × A)} (said (ByChannel (take_answer t.message)), ((result_unwrap_or t.message no_message).length, (result_unwrap_or t.message no_message).flags, w.goes_on (with_receiver ch t.receiver))) (told_by (take_rows w ch room))
   taken-told (none-complete none) = rw none
   taken-told (short-buffer some short) = rw (some, lt-ltb _ _ short)
   taken-told (whole-shown some fits) = rw (some, le-ltb _ _ fits)

@@ -17,6 +17,7 @@ use Rattle.sender.specs.declared.Handed.{Handed}
 use Rattle.sender.specs.declared.Offered.{Offered}
 use Rattle.sender.specs.declared.Passed.{Passed}
 use Rattle.sender.specs.Sending.{unacknowledged}
+use Rattle.std.specs.Result.{result_unwrap_or}
 use Rattle.telegram.specs.Cutting.{none}
 use Rattle.receiver.specs.Receiving.{following, settled, numbered, discarded, used, completed, received, took}
 use Rattle.receiver.specs.declared.AckDue.{AckDue}
@@ -117,10 +118,10 @@ module _ {limit : ℕ} {r : Receiver} (k : Receives limit r) where
       go (shows w f) = record { at = k.at; back = k.back; ack = k.ack; complete = none-declared }
 
   -- a take reports four flags
-  pub took-reports : (room : ℕ) → (took r room).message.flags < 16
+  pub took-reports : (room : ℕ) → (result_unwrap_or (took r room).message none).flags < 16
   took-reports room = go (take-outcome r room)
     where
-      go : {x : Took} → TakeOutcome r room x → x.message.flags < 16
+      go : {x : Took} → TakeOutcome r room x → (result_unwrap_or x.message none).flags < 16
       go (none-complete w) = omega arith
       go (short-buffer w s) = omega arith
       go (shows w f) = k.complete.flags

@@ -27,7 +27,7 @@ use Rattle.sender.specs.Sending.{fresh as fresh_sender}
 use Rattle.sender.specs.Writing.{Written, written}
 use Rattle.sender.proofs.Writing.{writes as sender-writes}
 use Rattle.receiver.specs.declared.Receipt.{Receipt}
-use Rattle.receiver.specs.Receiving.{took, fresh as fresh_receiver, shown}
+use Rattle.receiver.specs.Receiving.{took, fresh as fresh_receiver, shown, Shown}
 use Rattle.reading.specs.Reading.{Reading, Read, reads}
 use Rattle.reading.specs.Demand2.{Sendable, Ready, Sent, Free, flagged, Demand2Holds}
 use Rattle.reading.proofs.Whole.{reads-cutting, reads-flagged, read-shown, read_taken}
@@ -107,7 +107,7 @@ module _ (limit : ℕ) (twelve : limit ≤ 4095) where
 
   arrives : (t : Terms) (s : Sender) (m : List ℕ) (h : Reading) → Sendable limit m → Ready t s → Free m s.oldest h
       → (let r = reads limit h (written limit t s m).frames in
-      (shown r.receiver r.buffer ≡ m) × ((took r.receiver (length r.buffer)).message ≡ record { length = length m; flags = 0 }))
+      (shown r.receiver r.buffer ≡ m) × ((took r.receiver (length r.buffer)).message ≡ Shown (record { length = length m; flags = 0 })))
   arrives t s m h f r a =
       let e = read_back m t.block s.oldest h f a in
       rw (sent t s m f r).frames (read-shown m 0 s.oldest h.buffer _ e, read_taken m 0 s.oldest h.buffer _ f.some e)
@@ -151,7 +151,7 @@ demand2 limit twelve =
 -- fresh ends meet what it assumes: every message of 1 to 1,024 bytes arrives, with flags 0, at every block size and into every buffer of 1,024
 pub fresh-arrives : (t : Terms) (m b : List ℕ) (n : Receipt) → 1 ≤ t.block → t.block ≤ 15 → Sendable 1024 m → 1024 ≤ length b
     → let h = reads 1024 (record { receiver = fresh_receiver; buffer = b; note = n }) (written 1024 t fresh_sender m).frames in
-    (shown h.receiver h.buffer ≡ m) × ((took h.receiver (length h.buffer)).message ≡ record { length = length m; flags = 0 })
+    (shown h.receiver h.buffer ≡ m) × ((took h.receiver (length h.buffer)).message ≡ Shown (record { length = length m; flags = 0 }))
 fresh-arrives t m b n low high f roomy =
     let within = f.within in
     (demand2 1024 (omega arith)).arrives t fresh_sender m (record { receiver = fresh_receiver; buffer = b; note = n }) f

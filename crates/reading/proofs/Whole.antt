@@ -14,7 +14,7 @@ use Rattle.telegram.specs.declared.kinds.Sorted.{Sorted}
 use Rattle.telegram.specs.declared.kinds.Telegram.TheVariants.{Data}
 use Rattle.telegram.proofs.RoundTrip.{header-sorted, frame_back}
 use Rattle.telegram.proofs.Cut.{cutting-at, cutting-length}
-use Rattle.receiver.specs.Receiving.{took, shown}
+use Rattle.receiver.specs.Receiving.{took, shown, Shown}
 use Rattle.receiver.specs.declared.Took.{Took}
 use Rattle.receiver.proofs.Rules.{take-shown}
 use Rattle.reading.specs.Reading.{Reading, Idle, Read, arrives, reads}
@@ -122,8 +122,8 @@ pub read-shown : (m : List ℕ) (flags number : ℕ) (b : List ℕ) (h : Reading
 read-shown m flags number b h s = ap (λ (x : Message). take x.length h.buffer) s.complete ∙ ap (take (length m)) s.buffer ∙ take-append_seam m (drop (length m) b)
 
 pub read_taken : (m : List ℕ) (flags number : ℕ) (b : List ℕ) (h : Reading) → 0 < length m → Read m flags number b h
-    → (took h.receiver (length h.buffer)).message ≡ record { length = length m; flags = flags }
+    → (took h.receiver (length h.buffer)).message ≡ Shown (record { length = length m; flags = flags })
 read_taken m flags number b h some s =
     let n = ap (λ (x : Message). x.length) s.complete in
     let l = simp length-append at (ap length s.buffer) in
-    ap (λ (t : Took). t.message) (take-shown h.receiver (length h.buffer) (omega arith) (omega arith)) ∙ s.complete
+    ap (λ (t : Took). t.message) (take-shown h.receiver (length h.buffer) (omega arith) (omega arith)) ∙ ap Shown s.complete

@@ -16,7 +16,7 @@ use Rattle.sender.specs.declared.Terms.{Terms}
 use Rattle.sender.specs.declared.Sender.{Sender}
 use Rattle.sender.specs.declared.Hearing.TheVariants.{Done}
 use Rattle.sender.specs.Writing.{Written, written}
-use Rattle.receiver.specs.Receiving.{took, shown}
+use Rattle.receiver.specs.Receiving.{took, shown, Shown}
 use Rattle.reading.specs.Reading.{Reading, Idle, Read, reads}
 
 -- a message of 1 to limit bytes
@@ -135,7 +135,7 @@ pub record Demand2 (limit : ℕ) : Type 0 where
   pub arrives :
       (t : Terms) (s : Sender) (m : List ℕ) (h : Reading) → Sendable limit m → Ready t s → Free m s.oldest h →
       (let r = reads limit h (written limit t s m).frames in
-      (shown r.receiver r.buffer ≡ m) × ((took r.receiver (length r.buffer)).message ≡ record { length = length m; flags = 0 }))
+      (shown r.receiver r.buffer ≡ m) × ((took r.receiver (length r.buffer)).message ≡ Shown (record { length = length m; flags = 0 })))
 
 -- for every limit that twelve bits can tell, 1,024 among them
 abbrev pub Demand2Holds : Type 0

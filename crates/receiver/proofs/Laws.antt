@@ -9,15 +9,13 @@ use lib.ListN.{length, drop, length-append, length-take, length-drop}
 use Rattle.laws.proofs.Cases.{either}
 use Rattle.telegram.specs.declared.kinds.Telegram.{Telegram}
 use Rattle.telegram.specs.declared.kinds.Telegram.TheVariants.{Data, Ack, Test, Break, Disconnect, Setup, Accept, Malformed}
-use Rattle.telegram.specs.Cutting.{none}
-use Rattle.receiver.specs.Receiving.{first, waiting, following, ack_after, settled, kept, numbered, on_data, received, pasted, copied, is_used, buffered, returned, took}
+use Rattle.receiver.specs.Receiving.{first, waiting, following, ack_after, settled, kept, numbered, on_data, received, pasted, copied, is_used, buffered, returned, took, NoneComplete}
 use Rattle.telegram.specs.declared.cutting.Message.{Message}
 use Rattle.receiver.specs.declared.Standing.{Standing}
 use Rattle.receiver.specs.declared.Receiver.{Receiver}
 use Rattle.receiver.specs.declared.Receipt.{Receipt}
 use Rattle.receiver.specs.declared.Receipt.TheVariants.{ShortLater, NoData}
 use Rattle.receiver.specs.declared.Received.{Received}
-use Rattle.receiver.specs.declared.Taking.TheVariants.{NoneComplete}
 use Rattle.receiver.proofs.Outcomes.{Brings, at_first, at-later, breaks, short-first, short-later, goes_on, ends, Outcome, out-of-place, untaken, thrown-away, in-order, outcome}
 
 -- ---- what a frame leaves
@@ -219,6 +217,6 @@ pub returned-leaves : (r : Receiver) → ((returned r).complete ≡ r.complete) 
 returned-leaves r = (refl, refl)
 
 -- with none complete, none is taken
-pub took-none : (r : Receiver) (room : ℕ) → waiting r ≡ false → took r room ≡ record { note = NoneComplete; message = none; receiver = r }
+pub took-none : (r : Receiver) (room : ℕ) → waiting r ≡ false → took r room ≡ record { message = NoneComplete; receiver = r }
 unfolding took
 took-none r room e = rw e

@@ -16,7 +16,7 @@ use lib.Dec.{ltb, eqb}
 use borrow.Author.Tests.{eqb-false, eqb-true, ltb-false, ltb-true, eq-eqb, ne_eqb, le-ltb, not-true}
 use Rattle.laws.proofs.Cases.{by, by-not, by-lt, by-eq, both}
 use Rattle.telegram.specs.Cutting.{none, declared_of}
-use Rattle.receiver.specs.Receiving.{first, waiting, kept, discarded, used, completed, filled, on_first, on_later, on_data, took}
+use Rattle.receiver.specs.Receiving.{first, waiting, kept, discarded, used, completed, filled, on_first, on_later, on_data, took, Shown, NoneComplete, ShortBuffer}
 use Rattle.receiver.specs.Inside.{in_order}
 use Rattle.telegram.specs.declared.cutting.Message.{Message}
 use Rattle.receiver.specs.declared.Receiver.{Receiver}
@@ -24,7 +24,6 @@ use Rattle.receiver.specs.declared.Cause.{Cause}
 use Rattle.receiver.specs.declared.Cause.TheVariants.{TooShort, BadLength, TooMany, NoEnd, EarlyEnd}
 use Rattle.receiver.specs.declared.Receipt.TheVariants.{Used, Complete, ThrownAway, OutOfPlace, Untaken, ShortFirst, ShortLater, Broken}
 use Rattle.receiver.specs.declared.Received.{Received}
-use Rattle.receiver.specs.declared.Taking.TheVariants.{Shown, NoneComplete, ShortBuffer}
 use Rattle.receiver.specs.declared.Took.{Took}
 
 -- ---- a first or a later frame
@@ -148,10 +147,10 @@ module _ (limit : ℕ) (r : Receiver) (asks last : Bool) (number : ℕ) (p : Lis
 -- ---- a take
 
 pub data TakeOutcome (r : Receiver) (room : ℕ) : Took → Type 0 where
-  none-complete : waiting r ≡ false → TakeOutcome r room (record { note = NoneComplete; message = none; receiver = r })
-  short-buffer : waiting r ≡ true → room < r.complete.length → TakeOutcome r room (record { note = ShortBuffer; message = none; receiver = r })
+  none-complete : waiting r ≡ false → TakeOutcome r room (record { message = NoneComplete; receiver = r })
+  short-buffer : waiting r ≡ true → room < r.complete.length → TakeOutcome r room (record { message = ShortBuffer; receiver = r })
   shows : waiting r ≡ true → r.complete.length ≤ room
-      → TakeOutcome r room (record { note = Shown; message = r.complete; receiver = record { at = r.at; back = r.back; complete = none; ack = r.ack } })
+      → TakeOutcome r room (record { message = Shown r.complete; receiver = record { at = r.at; back = r.back; complete = none; ack = r.ack } })
 
 pub take-outcome : (r : Receiver) (room : ℕ) → TakeOutcome r room (took r room)
 unfolding took

@@ -14,13 +14,12 @@ use mathlib.Core.List.{List, [], ◌∷◌}
 use lib.ListN.{length, get_or}
 use lib.Dec.{eqb}
 use borrow.Author.Tests.{lt-ltb, le-ltb, ne_eqb}
-use Rattle.receiver.specs.Receiving.{fresh, first, waiting, following, settled, numbered, kept, discarded, used, completed, on_data, returned, ack_handed, took}
+use Rattle.receiver.specs.Receiving.{fresh, first, waiting, following, settled, numbered, kept, discarded, used, completed, on_data, returned, ack_handed, took, Shown, NoneComplete, ShortBuffer}
 use Rattle.telegram.specs.declared.cutting.Message.{Message}
 use Rattle.receiver.specs.declared.Receiver.{Receiver}
 use Rattle.receiver.specs.declared.Receipt.{Receipt}
 use Rattle.receiver.specs.declared.Receipt.TheVariants.{Used, Complete, ThrownAway, OutOfPlace, Untaken, ShortFirst, ShortLater, Broken, NoData}
 use Rattle.receiver.specs.declared.Received.{Received}
-use Rattle.receiver.specs.declared.Taking.TheVariants.{Shown, NoneComplete, ShortBuffer}
 use Rattle.receiver.proofs.Laws.{data-acked}
 use Rattle.receiver.proofs.Gaps.{none-ready}
 use Rattle.receiver.proofs.Outcomes.{Brings, at_first, at-later, breaks, short-first, short-later, goes_on, ends, Outcome, out-of-place, untaken, thrown-away, in-order, outcome}
@@ -63,17 +62,17 @@ module _ (r : Receiver) where
   module _ (room : ℕ) where
     -- a take shows a complete message that the lent buffer can hold, with its length and flags; it is taken, and nothing else changes
     pub take-shown : 1 ≤ r.complete.length → r.complete.length ≤ room
-        → took r room ≡ record { note = Shown; message = r.complete; receiver = record { at = r.at; back = r.back; complete = record { length = 0; flags = 0 }; ack = r.ack } }
+        → took r room ≡ record { message = Shown r.complete; receiver = record { at = r.at; back = r.back; complete = record { length = 0; flags = 0 }; ack = r.ack } }
     unfolding took
     take-shown some fits = rw (waiting-some some, le-ltb room r.complete.length fits)
 
-    -- row 5, "take with none complete": nothing changes, and flags 0 are reported
-    pub take_none : r.complete.length ≡ 0 → took r room ≡ record { note = NoneComplete; message = record { length = 0; flags = 0 }; receiver = r }
+    -- row 5, "take with none complete": nothing changes, and no message is shown
+    pub take_none : r.complete.length ≡ 0 → took r room ≡ record { message = NoneComplete; receiver = r }
     unfolding took
     take_none e = rw (waiting_none e)
 
-    -- row 7, "at .. take, lent buffer shorter than the declared length": nothing changes, and flags 0 are reported
-    pub take_short : room < r.complete.length → took r room ≡ record { note = ShortBuffer; message = record { length = 0; flags = 0 }; receiver = r }
+    -- row 7, "at .. take, lent buffer shorter than the declared length": nothing changes, and no message is shown
+    pub take_short : room < r.complete.length → took r room ≡ record { message = ShortBuffer; receiver = r }
     unfolding took
     take_short short = rw (waiting-some (omega arith), lt-ltb room r.complete.length short)
 

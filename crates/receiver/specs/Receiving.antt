@@ -1,5 +1,5 @@
 -- 01, "Receiving" and "Others": what an open channel's receiving half does at each call.
-use Rattle.std.specs.Prelude.{ℕ, ◌+◌, ◌-◌, ◌%◌, Bool, true, false, not, ◌&&◌, ◌||◌, List, ◌++◌, length, take, drop, get_or, ltb, eqb, if◌then◌else◌}
+use Rattle.std.specs.Prelude.{ℕ, ◌+◌, ◌-◌, ◌%◌, Bool, true, false, not, ◌&&◌, ◌||◌, List, ◌++◌, Result, Ok, Err, length, take, drop, get_or, ltb, eqb, if◌then◌else◌}
 use Rattle.telegram.specs.Cutting.{none, declared_of}
 use Rattle.telegram.specs.declared.kinds.Telegram.{Telegram}
 use Rattle.telegram.specs.declared.kinds.Telegram.TheVariants.{Data, Ack, Test, Break, Disconnect, Setup, Accept, Malformed}
@@ -11,7 +11,8 @@ use Rattle.receiver.specs.declared.Cause.TheVariants.{TooShort, BadLength, TooMa
 use Rattle.receiver.specs.declared.Receipt.{Receipt}
 use Rattle.receiver.specs.declared.Receipt.TheVariants.{Used, Complete, ThrownAway, OutOfPlace, Untaken, ShortFirst, ShortLater, Broken, NoData}
 use Rattle.receiver.specs.declared.Received.{Received}
-use Rattle.receiver.specs.declared.Taking.TheVariants.{Shown, NoneComplete, ShortBuffer}
+use Rattle.receiver.specs.declared.TakeError.{TakeError}
+use Rattle.receiver.specs.declared.TakeError.TheVariants.{NoneComplete as NoneThere, ShortBuffer as ShortRoom}
 use Rattle.receiver.specs.declared.Took.{Took}
 
 -- a number is expected, and nothing is begun
@@ -152,12 +153,25 @@ returned r = record { at = r.back; back = r.back; complete = r.complete; ack = r
 abbrev pub ack_handed : Receiver → Receiver
 ack_handed r = record { at = r.at; back = r.back; complete = r.complete; ack = no_ack }
 
+-- what taking a message finds: the message that is shown, or why none is
+abbrev pub Taking : Type 0
+Taking = Result Message TakeError
+
+pattern abbrev pub Shown : Message → Taking
+Shown m = Ok m
+
+pattern abbrev pub NoneComplete : Taking
+NoneComplete = Err NoneThere
+
+pattern abbrev pub ShortBuffer : Taking
+ShortBuffer = Err ShortRoom
+
 -- take: row 5 with none complete, row 7 where the lent buffer is shorter than the declared length; else the message is taken, and its length and flags are reported (02, 1)
 unfoldable pub took : Receiver → (room : ℕ) → Took
 took r room =
-    if not (waiting r) then record { note = NoneComplete; message = none; receiver = r }
-    else if ltb room r.complete.length then record { note = ShortBuffer; message = none; receiver = r }
-    else record { note = Shown; message = r.complete; receiver = record { at = r.at; back = r.back; complete = none; ack = r.ack } }
+    if not (waiting r) then record { message = NoneComplete; receiver = r }
+    else if ltb room r.complete.length then record { message = ShortBuffer; receiver = r }
+    else record { message = Shown r.complete; receiver = record { at = r.at; back = r.back; complete = none; ack = r.ack } }
 
 -- the bytes of the message that a take shows: the first part of the lent buffer
 abbrev pub shown : Receiver → List ℕ → List ℕ

@@ -88,10 +88,9 @@ struct Brought {
     fill: usize,
 }
 
-// What taking a message finds.
+// Why no message is taken.
 #[derive(Clone, Copy)]
-pub enum Taking {
-    Shown,
+pub enum TakeError {
     NoneComplete,
     // The lent buffer is shorter than the declared length.
     ShortBuffer,
@@ -99,9 +98,8 @@ pub enum Taking {
 
 #[derive(Clone, Copy)]
 pub struct Took {
-    pub note: Taking,
-    // The message shown; none with a refusal.
-    pub message: Message,
+    // The message shown.
+    pub message: Result<Message, TakeError>,
     pub receiver: Receiver,
 }
 
@@ -127,24 +125,18 @@ fn outcome(last: bool, message: Message, fill: usize, room: usize) -> Receipt
 {
     let length = message.length as usize;
     if length < fill {
-        return Receipt::Broken(Cause::TooMany);
+        Receipt::Broken(Cause::TooMany)
+    } else if !last & (fill == length) {
+        Receipt::Broken(Cause::NoEnd)
+    } else if last & (fill < length) {
+        Receipt::Broken(Cause::EarlyEnd)
+    } else if room < length {
+        Receipt::ShortFirst
+    } else if last {
+        Receipt::Complete
+    } else {
+        Receipt::Used
     }
-    if last {
-        if fill < length {
-            return Receipt::Broken(Cause::EarlyEnd);
-        }
-        if room < length {
-            return Receipt::ShortFirst;
-        }
-        return Receipt::Complete;
-    }
-    if fill == length {
-        return Receipt::Broken(Cause::NoEnd);
-    }
-    if room < length {
-        return Receipt::ShortFirst;
-    }
-    Receipt::Used
 }
 
 impl Receipt {
@@ -152,17 +144,7 @@ impl Receipt {
     pub fn is_used(self) -> bool
         ensures { result ≡ is_used self }
     {
-        match self {
-            Receipt::Used => true,
-            Receipt::Complete => true,
-            Receipt::ThrownAway => false,
-            Receipt::OutOfPlace(_) => false,
-            Receipt::Untaken => false,
-            Receipt::ShortFirst => false,
-            Receipt::ShortLater => false,
-            Receipt::Broken(_) => false,
-            Receipt::NoData => false,
-        }
+        matches!(self, Receipt::Used | Receipt::Complete)
     }
 }
 
@@ -318,6 +300,7 @@ impl Receiver {
     }
 
     // The receiver after a first or a later frame, by what became of it.
+    #[tactic(auto, using(laws::proofs::Branches::branches), unfolding(crate::specs::Inside::receiver_after))]
     fn after(self, note: Receipt, asks: bool, last: bool, brought: Brought) -> Receiver
         ensures { result ≡ receiver_after self note asks last brought }
     {
@@ -335,13 +318,12 @@ impl Receiver {
                 )
             }
             Receipt::Complete => self.numbered(asks, true, false, NONE, 0, m),
-            Receipt::ThrownAway => self,
-            Receipt::OutOfPlace(_) => self,
-            Receipt::Untaken => self,
-            Receipt::ShortFirst => self.discard(asks, last),
-            Receipt::ShortLater => self,
-            Receipt::Broken(_) => self.discard(asks, last),
-            Receipt::NoData => self,
+            Receipt::ShortFirst | Receipt::Broken(_) => self.discard(asks, last),
+            Receipt::ThrownAway
+            | Receipt::OutOfPlace(_)
+            | Receipt::Untaken
+            | Receipt::ShortLater
+            | Receipt::NoData => self,
         }
     }
 
@@ -385,6 +367,7 @@ impl Receiver {
     }
 
     // What a frame leaves: an Ack that becomes due, or a message that ends, moves the place that a break returns to.
+    #[tactic(auto, using(laws::proofs::Branches::branches), unfolding(crate::specs::Receiving::settled))]
     fn settled(mut self, asks: bool, last: bool, standing: Standing, complete: Message) -> Receiver
         ensures { result ≡ settled self asks last standing complete }
     {
@@ -392,18 +375,14 @@ impl Receiver {
         self.at = standing;
         self.complete = complete;
         if asks {
-            let ack = AckDue {
+            self.ack = AckDue {
                 due: true,
                 ready: !waits,
                 number: standing.expected,
             };
-            self.back = standing;
-            self.ack = ack;
-            return self;
         }
-        if last {
+        if asks || last {
             self.back = standing;
-            return self;
         }
         self
     }
@@ -431,30 +410,26 @@ impl Receiver {
     }
 
     // Takes the complete message, in a lent buffer of room bytes.
+    #[tactic(auto, using(laws::proofs::Branches::branches), unfolding(crate::specs::Receiving::took))]
     pub fn take(mut self, room: usize) -> Took
         ensures { result ≡ took self room }
     {
         let complete = self.complete;
-        let length = complete.length;
-        let none = NONE;
         if !self.is_waiting() {
             return Took {
-                note: Taking::NoneComplete,
-                message: none,
+                message: Err(TakeError::NoneComplete),
                 receiver: self,
             };
         }
-        if room < length as usize {
+        if room < complete.length as usize {
             return Took {
-                note: Taking::ShortBuffer,
-                message: none,
+                message: Err(TakeError::ShortBuffer),
                 receiver: self,
             };
         }
-        self.complete = none;
+        self.complete = NONE;
         Took {
-            note: Taking::Shown,
-            message: complete,
+            message: Ok(complete),
             receiver: self,
         }
     }

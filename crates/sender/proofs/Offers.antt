@@ -6,9 +6,8 @@ use mathlib.Core.Path.{◌≡◌, subst, ap}
 use borrow.Author.Tests.{le-ltb, ne_eqb, eqb-true, eqb-false}
 use Rattle.laws.proofs.Cases.{by-not, by-lt, by-eq}
 use Rattle.sender.specs.declared.Sender.{Sender}
-use Rattle.sender.specs.declared.Offer.TheVariants.{Accepted, Busy, BadLength}
 use Rattle.sender.specs.declared.Offered.{Offered}
-use Rattle.sender.specs.Sending.{idle, offered, accepted}
+use Rattle.sender.specs.Sending.{idle, offered, accepted, Accepted, Busy, BadLength}
 
 -- no message is in sending, and this one has 1 to limit bytes
 pub record Takes (limit : ℕ) (s : Sender) (n : ℕ) : Type 0 where

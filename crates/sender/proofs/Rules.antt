@@ -12,10 +12,9 @@ use Rattle.telegram.specs.declared.kinds.Parameters.{Parameters}
 use Rattle.telegram.specs.declared.kinds.Telegram.TheVariants.{Data, Test, Break, Disconnect, Setup, Accept, Malformed}
 use Rattle.sender.specs.declared.Terms.{Terms}
 use Rattle.sender.specs.declared.Sender.{Sender}
-use Rattle.sender.specs.declared.Offer.TheVariants.{Accepted, Busy, BadLength}
 use Rattle.sender.specs.declared.Hearing.TheVariants.{Part, Done, Held, Nothing, UsedUp, NoAck}
 use Rattle.sender.specs.declared.Passing.TheVariants.{Quiet, Again, UsedUp as RanOut}
-use Rattle.sender.specs.Sending.{fresh, unacknowledged, offered, distance, on_ack, heard, passed}
+use Rattle.sender.specs.Sending.{fresh, unacknowledged, offered, distance, on_ack, heard, passed, Accepted, Busy, BadLength}
 use Rattle.sender.specs.declared.Offered.{Offered}
 use Rattle.sender.specs.declared.Heard.{Heard}
 use Rattle.sender.proofs.Offers.{OfferCase, unfinished, no_bytes, too_long, accepts, offer_case}

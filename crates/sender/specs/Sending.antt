@@ -1,12 +1,13 @@
 -- 01, "Sending": what an open channel's sending half does at each call.
-use Rattle.std.specs.Prelude.{ℕ, ◌+◌, ◌-◌, ◌%◌, max, Bool, not, ◌&&◌, List, [], length, ltb, leb, eqb, if◌then◌else◌}
+use Rattle.std.specs.Prelude.{ℕ, ◌+◌, ◌-◌, ◌%◌, max, Bool, not, ◌&&◌, List, [], Result, Ok, Err, length, ltb, leb, eqb, if◌then◌else◌}
 use Rattle.telegram.specs.Outgoing.{payload_of}
 use Rattle.telegram.specs.Cutting.{frames_of, asks_at, frame_at}
 use Rattle.telegram.specs.declared.kinds.Telegram.{Telegram}
 use Rattle.telegram.specs.declared.kinds.Telegram.TheVariants.{Data, Ack, Test, Break, Disconnect, Setup, Accept, Malformed}
 use Rattle.sender.specs.declared.Terms.{Terms}
 use Rattle.sender.specs.declared.Sender.{Sender}
-use Rattle.sender.specs.declared.Offer.TheVariants.{Accepted, Busy, BadLength}
+use Rattle.sender.specs.declared.OfferError.{OfferError}
+use Rattle.sender.specs.declared.OfferError.TheVariants.{Busy as InSending, BadLength as NotSent}
 use Rattle.sender.specs.declared.Offered.{Offered}
 use Rattle.sender.specs.declared.Hearing.TheVariants.{Part, Done, Held, Nothing, UsedUp, NoAck}
 use Rattle.sender.specs.declared.Heard.{Heard}
@@ -33,6 +34,19 @@ abbrev pub unacknowledged : Sender → Bool
 unacknowledged s = ltb s.acked s.high
 
 -- ---- a message is offered
+
+-- it is accepted, or refused
+abbrev pub Offer : Type 0
+Offer = Result (Unit {0}) OfferError
+
+pattern abbrev pub Accepted : Offer
+Accepted = Ok tt
+
+pattern abbrev pub Busy : Offer
+Busy = Err InSending
+
+pattern abbrev pub BadLength : Offer
+BadLength = Err NotSent
 
 -- a message of n bytes in sending, from its first frame on; a hold or a gap left from before goes on
 abbrev pub accepted : Sender → ℕ → Sender

@@ -5,7 +5,7 @@
 // Where repeats are used up it says so and leaves itself as it was: the channel is lost then.
 #![tactic(auto)]
 
-ghost use Rattle.std.specs.Prelude.{◌≡◌, ◌<◌, max, if◌then◌else◌};
+ghost use Rattle.std.specs.Prelude.{◌≡◌, ◌<◌};
 ghost use Rattle.telegram.specs.Cutting.{longest};
 ghost use Rattle.sender.specs.Sending.{fresh, offered, on_ack, heard, passed, quiet, frame_due, first_number, advanced, no_frame, handed, unacknowledged};
 
@@ -48,16 +48,18 @@ pub struct Sender {
     pub gap: u32,
 }
 
+// Why an offered message is refused.
 #[derive(Clone, Copy)]
-pub enum Offer {
-    Accepted,
+pub enum OfferError {
+    // One is in sending.
     Busy,
+    // It has no byte, or more than the longest.
     BadLength,
 }
 
 #[derive(Clone, Copy)]
 pub struct Offered {
-    pub note: Offer,
+    pub note: Result<(), OfferError>,
     pub sender: Sender,
 }
 
@@ -117,26 +119,6 @@ pub struct Handed {
     pub payload: Payload,
 }
 
-// The larger of two counts.
-fn larger(a: u16, b: u16) -> u16
-    ensures { result ≡ max a b }
-{
-    if a < b {
-        return b;
-    }
-    a
-}
-
-// The one time or the other.
-fn choose(test: bool, a: u32, b: u32) -> u32
-    ensures { result ≡ (if test then a else b) }
-{
-    if test {
-        return a;
-    }
-    b
-}
-
 impl Sender {
     // What the A1 that opens a channel leaves.
     pub fn fresh() -> Sender
@@ -156,25 +138,19 @@ impl Sender {
     }
 
     // A message of len bytes is offered.
+    #[tactic(auto, using(laws::proofs::Branches::branches), unfolding(crate::specs::Sending::offered))]
     pub fn offer(mut self, len: usize) -> Offered
         ensures { result ≡ offered longest self len }
     {
-        let length = self.length;
-        if length != 0 {
+        if self.length != 0 {
             return Offered {
-                note: Offer::Busy,
+                note: Err(OfferError::Busy),
                 sender: self,
             };
         }
-        if len == 0 {
+        if len == 0 || (LONGEST as usize) < len {
             return Offered {
-                note: Offer::BadLength,
-                sender: self,
-            };
-        }
-        if (LONGEST as usize) < len {
-            return Offered {
-                note: Offer::BadLength,
+                note: Err(OfferError::BadLength),
                 sender: self,
             };
         }
@@ -185,7 +161,7 @@ impl Sender {
         self.count = 0;
         self.wait = 0;
         Offered {
-            note: Offer::Accepted,
+            note: Ok(()),
             sender: self,
         }
     }
@@ -204,6 +180,7 @@ impl Sender {
     }
 
     // An Ack, ready or not, with its number.
+    #[tactic(auto, using(laws::proofs::Branches::branches), unfolding(crate::specs::Sending::on_ack, crate::specs::Sending::distance))]
     fn on_ack(mut self, terms: Terms, ready: bool, number: u8) -> Heard
         ensures { result ≡ on_ack terms self ready number }
     {
@@ -212,15 +189,8 @@ impl Sender {
         let high = self.high;
         let oldest = self.oldest;
         let count = self.count;
-        let hold = self.hold;
         let repeats = terms.repeats;
-        if length == 0 {
-            return Heard {
-                note: Hearing::Nothing,
-                sender: self,
-            };
-        }
-        if 0 < hold {
+        if length == 0 || 0 < self.hold {
             return Heard {
                 note: Hearing::Nothing,
                 sender: self,
@@ -259,7 +229,7 @@ impl Sender {
         self.oldest = ((oldest as u16 + d as u16) % 16) as u8;
         self.count = 0;
         self.wait = 0;
-        self.hold = choose(ready, 0, terms.t_wait);
+        self.hold = if ready { 0 } else { terms.t_wait };
         if reached == frames(length as usize) {
             self.length = 0;
             self.acked = 0;
@@ -279,20 +249,16 @@ impl Sender {
     }
 
     // Time passes.
+    #[tactic(auto, using(laws::proofs::Branches::branches), unfolding(crate::specs::Sending::passed))]
     pub fn pass(mut self, terms: Terms, tenths: u64) -> Passed
         ensures { result ≡ passed terms self tenths }
     {
-        let wait = self.wait;
-        let count = self.count;
-        if wait == 0 {
+        if self.wait == 0 || tenths < self.wait as u64 {
             return self.quiet(tenths);
         }
-        if tenths < wait as u64 {
-            return self.quiet(tenths);
-        }
-        if count < terms.repeats {
+        if self.count < terms.repeats {
             self.next = self.acked;
-            self.count = count + 1;
+            self.count += 1;
             self.wait = 0;
             self.hold = less(self.hold, tenths);
             self.gap = less(self.gap, tenths);
@@ -379,9 +345,9 @@ impl Sender {
         let length = self.length;
         let next = self.next;
         let asks = asks_at(terms.block, length as usize, next);
-        self.high = larger(self.high, next + 1);
+        self.high = self.high.max(next + 1);
         self.next = next + 1;
-        self.wait = choose(asks, terms.t1, 0);
+        self.wait = if asks { terms.t1 } else { 0 };
         self.gap = terms.t3;
         self
     }

@@ -1,5 +1,5 @@
 // What our settings and the fields of the peer's A0 or A1 agree on, at either end.
-ghost use Rattle.std.specs.Prelude.{◌≡◌, min};
+ghost use Rattle.std.specs.Prelude.{◌≡◌};
 ghost use Rattle.settings.specs.Agreed.{own_fields, agreed};
 
 use crate::Settings;
@@ -18,23 +18,13 @@ pub fn own_fields(s: Settings) -> Fields
     }
 }
 
-// The smaller of two block sizes.
-fn smaller(a: u8, b: u8) -> u8
-    ensures { result ≡ min a b }
-{
-    if a < b {
-        return a;
-    }
-    b
-}
-
 // What our settings and the peer's fields agree on.
 pub fn agree(s: Settings, p: Fields) -> channel::Parameters
     ensures { result ≡ agreed s p }
 {
     channel::Parameters {
         terms: Terms {
-            block: smaller(s.block, p.block),
+            block: s.block.min(p.block),
             t1: tenths(s.t1),
             t3: tenths(p.t3),
             repeats: s.mntb,

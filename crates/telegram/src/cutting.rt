@@ -47,61 +47,49 @@ pub fn frames(len: usize) -> usize
 }
 
 // Byte i of the seven that the telegram behind `place` others takes of the length bytes and the message; zero past their end.
+#[tactic(auto, unfolding(crate::specs::Cutting::stream_of))]
 fn byte_at(message: &[u8], place: u16, i: u8) -> u8
     ensures { result ≡ get_or (stream_of message.now) (7 * place + i) 0 }
 {
     let at = 7 * (place as usize) + i as usize;
     if at == 0 {
-        return (message.len() / 256 % 16) as u8;
+        (message.len() / 256 % 16) as u8
+    } else if at == 1 {
+        (message.len() % 256) as u8
+    } else if at - 2 < message.len() {
+        message[at - 2]
+    } else {
+        0
     }
-    if at == 1 {
-        return (message.len() % 256) as u8;
-    }
-    let behind = at - 2;
-    if behind < message.len() {
-        return message[behind];
-    }
-    0
 }
 
 // The first byte of a data telegram.
+#[tactic(auto, using(laws::proofs::Branches::branches), unfolding(crate::specs::Cutting::header_of))]
 fn header(asks: bool, last: bool, number: usize) -> u8
     ensures { result ≡ header_of asks last number }
 {
     let n = (number % 16) as u8;
     if asks {
-        if last {
-            return 0x10 + n;
-        }
-        return n;
+        if last { 0x10 + n } else { n }
+    } else if last {
+        0x30 + n
+    } else {
+        0x20 + n
     }
-    if last {
-        return 0x30 + n;
-    }
-    0x20 + n
 }
 
 // How many bytes a telegram has: its first byte, and at most seven of what is left from a place on.
 fn length_from(size: usize, at: usize) -> usize
     ensures { result ≡ 1 + min 7 (size - at) }
 {
-    if size <= at {
-        return 1;
-    }
-    if size - at < 7 {
-        return 1 + (size - at);
-    }
-    8
+    1 + size.saturating_sub(at).min(7)
 }
 
 // A block size to divide by: 1 for none.
 fn divisor(block: u8) -> u32
     ensures { result ≡ max block 1 }
 {
-    if block == 0 {
-        return 1;
-    }
-    block as u32
+    (block as u32).max(1)
 }
 
 // Whether the telegram behind `place` others of a message of len bytes asks for an Ack.
@@ -131,10 +119,7 @@ pub fn frame(message: &[u8], block: u8, first: u8, place: u16) -> Payload
 fn piece_start(at: usize, len: usize) -> usize
     ensures { result ≡ (if ltb at 2 then len else at - 2) }
 {
-    if at < 2 {
-        return len;
-    }
-    at - 2
+    if at < 2 { len } else { at - 2 }
 }
 
 // The telegram behind `place` others of a message, with its first byte. All but the first and the last take seven bytes of the

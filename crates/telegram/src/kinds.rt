@@ -47,23 +47,14 @@ pub fn sort(s: &[u8]) -> Sorted
 fn fillable(kind: Telegram) -> bool
     ensures { result ≡ fillable kind }
 {
-    match kind {
-        Telegram::Data {
-            asks: _,
-            last: _,
-            number: _,
-        } => false,
-        Telegram::Ack {
-            ready: _,
-            number: _,
-        } => true,
-        Telegram::Test => true,
-        Telegram::Break => true,
-        Telegram::Disconnect => true,
-        Telegram::Setup(_) => false,
-        Telegram::Accept(_) => true,
-        Telegram::Malformed => false,
-    }
+    matches!(
+        kind,
+        Telegram::Ack { .. }
+            | Telegram::Test
+            | Telegram::Break
+            | Telegram::Disconnect
+            | Telegram::Accept(_)
+    )
 }
 
 fn kind(s: &[u8]) -> Telegram
@@ -117,30 +108,20 @@ fn kind(s: &[u8]) -> Telegram
 }
 
 // Whether a block size is none: 0 or over 15.
+#[tactic(auto, using(laws::proofs::Branches::branches), unfolding(crate::specs::Kinds::bad_block))]
 pub fn bad_block(block: u8) -> bool
     ensures { result ≡ bad_block block }
 {
-    if block == 0 {
-        return true;
-    }
-    if 15 < block {
-        return true;
-    }
-    false
+    block == 0 || 15 < block
 }
 
 pub fn write_ack(ready: bool, number: u8) -> Payload
     ensures { result ≡ ack_of ready number }
 {
-    if ready {
-        return Payload {
-            len: 1,
-            bytes: [0xB0 + number % 16, 0, 0, 0, 0, 0, 0, 0],
-        };
-    }
+    let opcode = if ready { 0xB0 } else { 0x90 };
     Payload {
         len: 1,
-        bytes: [0x90 + number % 16, 0, 0, 0, 0, 0, 0, 0],
+        bytes: [opcode + number % 16, 0, 0, 0, 0, 0, 0, 0],
     }
 }
 

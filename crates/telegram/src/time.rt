@@ -24,8 +24,5 @@ fn unit(code: u8) -> u32
 pub fn less(timer: u32, by: u64) -> u32
     ensures { result ≡ timer - by }
 {
-    if timer as u64 <= by {
-        return 0;
-    }
-    timer - by as u32
+    (timer as u64).saturating_sub(by) as u32
 }
