@@ -6,3 +6,4 @@ pub mod Calls
 pub mod Places
 pub mod Answers
 pub mod Session
+pub mod Driven

@@ -1,5 +1,5 @@
 -- What is kept from line to line.
-use Rattle.std.specs.Prelude.{◌≡◌, ℕ, ◌+◌, ◌%◌, ◌^◌, Bool, false, List, length, take, if◌then◌else◌}
+use Rattle.std.specs.Prelude.{◌≡◌, ℕ, ◌+◌, ◌%◌, ◌^◌, Bool, ◌||◌, false, List, length, take, if◌then◌else◌}
 use Rattle.std.proofs.lemmas.List.Edits.{sets}
 use Rattle.text.specs.Output.{Said, fresh}
 use Rattle.text.specs.declared.output.Output.{Output}
@@ -16,6 +16,10 @@ renewed s = record { room = 1024; length = 0; lines = s.lines; ended = s.ended; 
 -- one line more, with which the input may have ended
 abbrev pub next_line : Session → Bool → Session
 next_line s ended = record { room = s.room; length = s.length; lines = (s.lines + 1) % 2 ^ 64; ended = ended; output = s.output }
+
+-- the input has ended, or the output takes no more
+abbrev pub is_over : Session → Bool
+is_over s = s.ended || s.output.failed
 
 -- of so many turns, none is left when the input has ended or the output takes no more
 unfoldable pub turns_left : Session → ℕ → ℕ

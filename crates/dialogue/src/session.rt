@@ -1,7 +1,7 @@
 // What is kept from line to line, beside the record and the lent buffers.
 ghost use Rattle.std.specs.Prelude.{◌≡◌, length, replicate};
 ghost use Rattle.dialogue.specs.Answers.{answer_of, answer_at, each_of, owner_of, contents_of, error_of, zero_line};
-ghost use Rattle.dialogue.specs.Session.{fresh_session, renewed, next_line, turns_left, lending, keeping, Says, Answers};
+ghost use Rattle.dialogue.specs.Session.{fresh_session, renewed, next_line, is_over, turns_left, lending, keeping, Says, Answers};
 
 use crate::answers;
 use crate::answers::Carried;
@@ -43,6 +43,13 @@ impl Session {
         self.lines = self.lines.wrapping_add(1);
         self.ended = ended;
         self
+    }
+
+    // Whether the input has ended, or the output takes no more.
+    pub(crate) fn is_over(self) -> bool
+        ensures { result ≡ is_over self }
+    {
+        self.ended | self.output.failed
     }
 
     // Of so many turns, none is left when the input has ended or the output takes no more.

@@ -3,261 +3,141 @@
 // nothing. An answer that cannot be written ends the program.
 #![tactic(auto)]
 
+ghost use Rattle.std.specs.Prelude.{◌≡◌};
+ghost use Rattle.unit_console.specs.Car.{car_calls, answers, sets, setting_read};
+
 use dialogue::answers::Carried;
-use dialogue::calls::{Call, read_call};
-use dialogue::lines::read_line;
+use dialogue::driven::{Record, Reply, talk};
 use dialogue::numbers;
-use dialogue::session::{Session, clear};
-use dialogue::words::behind_word;
-use open_end::shown;
+use open_end::answers::{Answered, Arrived, Due, TakeStep};
 use settings::Settings;
-use text::writing;
-use unit::{Answered, Arrived, ControlUnit, Due, TakeStep};
+use unit::ControlUnit;
 
-// What is kept from line to line, beside the buffers that main makes.
-#[derive(Clone, Copy)]
-struct Console {
-    unit: ControlUnit,
-    session: Session,
-}
+// The name of the call that a control unit alone has, as the number that the letters make.
+const SET: u64 = 0x736574;
 
-// What the call asks for that a control unit alone has.
+// What that call sets.
 #[derive(Clone, Copy)]
-struct Set {
+struct Setting {
     settings: Settings,
     reply: u8,
 }
 
-// Its name, as the number that the letters make.
-const SET: u64 = 0x736574;
+// The record that is driven.
+#[derive(Clone, Copy)]
+struct Car {
+    unit: ControlUnit,
+}
 
 fn main(rt: HostRuntime) {
-    // A line, one character too many, and a CR behind it; its answer takes its place.
-    let mut text = [0; 16002];
-    let mut bytes = [0; 8192];
-    let mut buffer = [0; 4096];
-    let mut message = [0; 4096];
-    talk(&rt, &mut text, &mut bytes, &mut buffer, &mut message);
+    talk::<Car, HostRuntime>(&rt);
 }
 
-// Reads and answers until the input ends or an answer cannot be written. The count of turns is more than any run uses up.
-fn talk<R: Input + Print + Eprint>(
-    rt: &R,
-    text: &mut [u8],
-    bytes: &mut [u8],
-    buffer: &mut [u8],
-    message: &mut [u8],
-) {
-    let mut c = fresh();
-    let mut turns = u64::MAX;
-    while 0 < turns {
-        turns -= 1;
-        c = c.turn(rt, text, bytes, buffer, message);
-        let session = c.session;
-        turns = session.turns_left(turns);
-    }
-}
+impl Record for Car {
+    ghost calls = { car_calls };
 
-// A closed unit, and no line read.
-fn fresh() -> Console {
-    Console {
-        unit: ControlUnit::closed(),
-        session: Session::fresh(),
-    }
-}
-
-impl Console {
-    fn with(mut self, session: Session) -> Console {
-        self.session = session;
-        self
-    }
-
-    // Reads a line and answers it; it is understood whole before anything is done.
-    fn turn<R: Input + Print + Eprint>(
-        self,
-        rt: &R,
-        text: &mut [u8],
-        bytes: &mut [u8],
-        buffer: &mut [u8],
-        message: &mut [u8],
-    ) -> Console {
-        let line = read_line(rt, text);
-        let fill = line.fill;
-        let call = read_call(shown(text, fill), bytes);
-        let session = self.session;
-        self.with(session.next_line(line.ended))
-            .run(rt, call, fill, text, bytes, buffer, message)
-    }
-
-    // Runs the call that a line of fill characters asks for.
-    fn run<R: Print + Eprint>(
-        self,
-        rt: &R,
-        call: Call,
-        fill: usize,
-        text: &mut [u8],
-        bytes: &[u8],
-        buffer: &mut [u8],
-        message: &mut [u8],
-    ) -> Console {
-        let unit = self.unit;
-        let session = self.session;
-        let room = session.room;
-        match call {
-            Call::Nothing => self,
-            Call::Wrong => self.with(session.wrong(rt, text)),
-            Call::New => self.renewed(rt, buffer),
-            Call::Frame { id, count } => {
-                self.arrived(
-                    rt,
-                    arrive(unit, id, shown(bytes, count), buffer, room),
-                    text,
-                )
-            }
-            Call::Time(tenths) => self.answered(rt, unit.elapse(tenths), text),
-            Call::Due => self.handed(rt, unit.due(shown(message, session.length)), text),
-            Call::DueOf(count) => self.handed(rt, unit.due(shown(bytes, count)), text),
-            Call::Send(count) => self.sending(rt, shown(bytes, count), message, text),
-            Call::Take => self.taken(rt, unit.take_step(room), buffer, text),
-            Call::Close => self.answered(rt, unit.close(), text),
-            Call::Room(room) => self.with(session.lend(rt, room)),
-            Call::Buffer => self.with(session.show(rt, shown(buffer, room), text)),
-            Call::Other(name) => self.own(rt, read_own(name, behind_word(shown(text, fill))), text),
-        }
-    }
-
-    fn own<R: Print + Eprint>(self, rt: &R, own: Option<Set>, text: &mut [u8]) -> Console {
-        let unit = self.unit;
-        let session = self.session;
-        match own {
-            None => self.with(session.wrong(rt, text)),
-            Some(Set { settings, reply }) => { self.answered(rt, unit.set(settings, reply), text) }
-        }
-    }
-
-    fn renewed<R: Print + Eprint>(self, rt: &R, buffer: &mut [u8]) -> Console {
-        clear(buffer);
-        let session = self.session;
-        Console {
+    fn closed() -> Car {
+        Car {
             unit: ControlUnit::closed(),
-            session: session.renew(rt),
         }
     }
 
-    // A message that is accepted is kept, to be lent from now on.
-    fn sending<R: Print + Eprint>(
-        self,
-        rt: &R,
-        bytes: &[u8],
-        message: &mut [u8],
-        text: &mut [u8],
-    ) -> Console {
-        let unit = self.unit;
-        let session = self.session;
-        let sent = unit.send(bytes);
-        let said = sent.told.said;
-        if said.number != 0 {
-            return self.answered(rt, sent, text);
+    fn arrive(self, id: u16, bytes: &[u8], buffer: &mut [u8]) -> Reply<Car> {
+        let Arrived { told, padded, left } = self.unit.arrive(id, bytes, buffer);
+        Reply {
+            carried: Carried::marked(told.said, padded),
+            len: 0,
+            next: Car { unit: left },
         }
-        let length = writing::bytes(message, 0, bytes);
-        self.with(session.keep(length)).answered(rt, sent, text)
     }
 
-    fn answered<R: Print + Eprint>(self, rt: &R, answered: Answered, text: &mut [u8]) -> Console {
-        let told = answered.told;
-        let next = answered.unit;
-        self.telling(rt, next, Carried::marked(told.said, false), &[], text)
+    fn elapse(self, tenths: u64) -> Reply<Car> {
+        answers(self.unit.elapse(tenths))
     }
 
-    fn arrived<R: Print + Eprint>(self, rt: &R, arrived: Arrived, text: &mut [u8]) -> Console {
-        let told = arrived.told;
-        let next = arrived.unit;
-        self.telling(
-            rt,
-            next,
-            Carried::marked(told.said, arrived.padded),
-            &[],
-            text,
-        )
-    }
-
-    fn handed<R: Print + Eprint>(self, rt: &R, due: Due, text: &mut [u8]) -> Console {
-        let told = due.told;
-        let frame = due.frame;
-        let next = due.unit;
-        self.telling(
-            rt,
-            next,
-            Carried::handing(told.said, due.given, frame),
-            &[],
-            text,
-        )
-    }
-
-    fn taken<R: Print + Eprint>(
-        self,
-        rt: &R,
-        taken: TakeStep,
-        buffer: &[u8],
-        text: &mut [u8],
-    ) -> Console {
-        let told = taken.told;
-        let next = taken.unit;
-        let len = taken.len;
-        self.telling(
-            rt,
-            next,
-            Carried::showing(told.said, taken.flags),
-            shown(buffer, len),
-            text,
-        )
-    }
-
-    // Says an answer, and goes on with the unit that it leaves.
-    fn telling<R: Print + Eprint>(
-        self,
-        rt: &R,
-        next: ControlUnit,
-        carried: Carried,
-        message: &[u8],
-        text: &mut [u8],
-    ) -> Console {
-        let session = self.session;
-        Console {
-            unit: next,
-            session: session.tell(rt, carried, message, text),
+    fn due(self, message: &[u8]) -> Reply<Car> {
+        let Due {
+            told,
+            given,
+            frame,
+            left,
+        } = self.unit.due(message);
+        Reply {
+            carried: Carried::handing(told.said, given, frame),
+            len: 0,
+            next: Car { unit: left },
         }
+    }
+
+    fn send(self, message: &[u8]) -> Reply<Car> {
+        answers(self.unit.send(message))
+    }
+
+    fn take(self, room: usize) -> Reply<Car> {
+        let TakeStep {
+            told,
+            len,
+            flags,
+            left,
+        } = self.unit.take_step(room);
+        Reply {
+            carried: Carried::showing(told.said, flags),
+            len,
+            next: Car { unit: left },
+        }
+    }
+
+    fn close(self) -> Reply<Car> {
+        answers(self.unit.close())
+    }
+
+    fn own(self, name: u64, words: &[u8]) -> Option<Reply<Car>> {
+        if name != SET {
+            return None;
+        }
+        self.set(read_setting(words))
     }
 }
 
-// A frame arrives, the first room bytes of the buffer being lent.
-fn arrive(unit: ControlUnit, id: u16, bytes: &[u8], buffer: &mut [u8], room: usize) -> Arrived {
-    if buffer.len() < room {
-        return unit.arrive(id, bytes, buffer);
+impl Car {
+    fn set(self, setting: Option<Setting>) -> Option<Reply<Car>>
+        ensures { result ≡ sets self setting }
+    {
+        let Setting { settings, reply } = setting?;
+        Some(answers(self.unit.set(settings, reply)))
     }
-    unit.arrive(id, bytes, &mut buffer[..room])
 }
 
-// The twelfth word is the reply; a number too large for it is read as 0, which is no reply.
-fn read_own(name: u64, words: &[u8]) -> Option<Set> {
-    if name != SET {
-        return None;
+// An answer that carries nothing.
+fn answers(answered: Answered<ControlUnit>) -> Reply<Car>
+    ensures { result ≡ answers answered }
+{
+    let Answered { told, left } = answered;
+    Reply {
+        carried: Carried::marked(told.said, false),
+        len: 0,
+        next: Car { unit: left },
     }
+}
+
+// A closed unit's own where no word is given. The twelfth word is the reply; a number too large for it is read as 0, which is
+// no reply.
+fn read_setting(words: &[u8]) -> Option<Setting>
+    ensures { result ≡ setting_read words.now }
+{
     if words.len() == 0 {
-        let unit = ControlUnit::closed();
-        let settings = unit.settings;
-        return Some(Set {
+        let ControlUnit {
             settings,
-            reply: unit.reply,
-        });
+            reply,
+            ..
+        } = ControlUnit::closed();
+        return Some(Setting { settings, reply });
     }
     let given = numbers::settings(words);
-    let settings = given.settings;
-    let eleven = given.numbers;
-    let read = eleven.next(words, 255);
+    let read = given.numbers.next(words, 255);
     if read.are_all(words) {
-        return Some(Set {
-            settings,
+        return Some(Setting {
+            settings: given.settings,
             reply: (read.value % 256) as u8,
         });
     }
