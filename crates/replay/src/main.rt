@@ -43,11 +43,11 @@ fn main(rt: HostRuntime) {
     let mut settings = Settings::DEFAULT;
     settings.block = 15;
     let opened = Connection::closed().open(settings);
-    let begun = hand_over(&rt, Output::fresh(), opened.connection, &[]);
+    let begun = hand_over(&rt, Output::fresh(), opened.left, &[]);
     let played = play(&rt, begun, &EXCHANGE, &mut buffer);
     let c = played.connection;
     let closed = c.close();
-    hand_over(&rt, played.output, closed.connection, &[]);
+    hand_over(&rt, played.output, closed.left, &[]);
 }
 
 // Plays the entries of an exchange; an entry that is cut off ends it, and so does an output that failed.
@@ -111,16 +111,16 @@ fn arrive<R: Print + Eprint>(
     }
     let id = 256 * wide(entry[0]) + wide(entry[1]);
     let arrived = c.arrive(id as u16, &entry[2..], buffer);
-    let taken = take_and_print(rt, output, arrived.connection, buffer);
+    let taken = take_and_print(rt, output, arrived.left, buffer);
     pause(rt, taken.output, taken.connection, &[])
 }
 
 // Takes the complete message, where it lies in the buffer, and prints it.
 fn take_and_print<R: Print + Eprint>(rt: &R, output: Output, c: Connection, buffer: &[u8]) -> Played
-    ensures { result.connection ≡ (taken_by c (length buffer.now)).connection }
+    ensures { result.connection ≡ (taken_by c (length buffer.now)).left }
 {
     let taken = c.take(buffer);
-    print_taken(rt, output, taken.connection, taken.message)
+    print_taken(rt, output, taken.left, taken.message)
 }
 
 // Prints the message that a take shows, and gives back the record that it leaves.
@@ -141,13 +141,13 @@ fn print_taken<R: Print + Eprint>(
 // A message is sent.
 fn send<R: Print + Eprint>(rt: &R, output: Output, c: Connection, message: &[u8]) -> Played {
     let sent = c.send(message);
-    pause(rt, output, sent.connection, message)
+    pause(rt, output, sent.left, message)
 }
 
 // The time between two entries passes, and what is due is handed over.
 fn pause<R: Print + Eprint>(rt: &R, output: Output, c: Connection, message: &[u8]) -> Played {
     let passed = c.elapse(PAUSE);
-    hand_over(rt, output, passed.connection, message)
+    hand_over(rt, output, passed.left, message)
 }
 
 // Hands over what is due, and prints it: never more than this program's exchange can make due at once.
@@ -164,7 +164,7 @@ fn hand_over<R: Print + Eprint>(
         let due = c.due(message);
         let given = due.given;
         let frame = due.frame;
-        let next = due.connection;
+        let next = due.left;
         c = next;
         if !given {
             return Played {

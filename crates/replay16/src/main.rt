@@ -45,7 +45,7 @@ fn main(rt: HostRuntime) {
     let mut settings = Settings::default_16(row);
     settings.unit = 0x01;
     let opened = Connection::closed().open_as(row, settings);
-    let connection = opened.connection;
+    let connection = opened.left;
     let p = Played {
         output: Output::fresh(),
         connection,
@@ -151,9 +151,9 @@ impl Played {
         let output = self.output;
         let c = self.connection;
         let arrived = c.arrive(id, bytes, buffer);
-        let reached = arrived.connection;
+        let reached = arrived.left;
         let taken = reached.take_step(buffer.len());
-        let connection = taken.connection;
+        let connection = taken.left;
         let len = taken.len;
         Played {
             output: print_message(rt, output, shown(buffer, len)),
@@ -165,20 +165,20 @@ impl Played {
     fn accept(self, message: &[u8]) -> Played {
         let c = self.connection;
         let sent = c.send(message);
-        self.with(sent.connection)
+        self.with(sent.left)
     }
 
     // Time passes, and what is due is handed over.
     fn wait<R: Print + Eprint>(self, rt: &R, tenths: u64, message: &[u8]) -> Played {
         let c = self.connection;
         let passed = c.elapse(tenths);
-        self.with(passed.connection).hand_over(rt, message)
+        self.with(passed.left).hand_over(rt, message)
     }
 
     fn close(self) -> Played {
         let c = self.connection;
         let closed = c.close();
-        self.with(closed.connection)
+        self.with(closed.left)
     }
 
     // Hands over the frame that is due, if one is, and prints it.
@@ -187,7 +187,7 @@ impl Played {
         let c = self.connection;
         let due = c.due(message);
         let frame = due.frame;
-        let connection = due.connection;
+        let connection = due.left;
         if !due.given {
             return Played { output, connection };
         }
