@@ -1,6 +1,7 @@
 -- 01, "The record and its calls", "Opening" and "Numbers we answer with": what each call answers and leaves.
 use Rattle.std.specs.Prelude.{ℕ, ◌+◌, ◌-◌, Bool, true, false, not, ◌||◌, List, length, take, ltb, leb, eqb, if◌then◌else◌}
 use Rattle.std.specs.Borrow.{Bor}
+use Rattle.std.specs.declared.option.Option.TheVariants.{None, Some}
 use Rattle.telegram.specs.Kinds.{bad_block, setup_of, disconnect_of}
 use Rattle.opening.specs.declared.Reply.{Reply}
 use Rattle.opening.specs.declared.Reply.TheVariants.{Positive, Refused as RefusedBy, Malformed as NoReply}
@@ -24,7 +25,7 @@ use Rattle.open_end.specs.declared.Frame.{Frame}
 use Rattle.open_end.specs.declared.OpenEnd.{OpenEnd}
 use Rattle.open_end.specs.declared.Course.{Course}
 use Rattle.open_end.specs.declared.Course.TheVariants.{GoesOn, GivenUp, Leaves}
-use Rattle.open_end.specs.OpenEnd.{no_frame, course_of, arrived_at, buffered_at, elapsed_at, due_at, sent_at, taken_at}
+use Rattle.open_end.specs.OpenEnd.{course_of, arrived_at, buffered_at, elapsed_at, due_at, sent_at, taken_at}
 use Rattle.connection.specs.declared.attempt.Attempt.{Attempt}
 use Rattle.connection.specs.declared.Connection.{Connection}
 use Rattle.connection.specs.declared.Answered.{Answered}
@@ -46,11 +47,11 @@ marked p r = record { told = r.told; padded = p; connection = r.connection }
 
 -- 0 with a frame handed over
 abbrev pub hand_over : Frame → Connection → Due
-hand_over f c = record { told = told (Channel Good); given = true; frame = f; connection = c }
+hand_over f c = record { told = told (Channel Good); frame = Some f; connection = c }
 
 -- 0 with no frame
 abbrev pub hand_nothing : Connection → Due
-hand_nothing c = record { told = told (Channel Good); given = false; frame = no_frame; connection = c }
+hand_nothing c = record { told = told (Channel Good); frame = None; connection = c }
 
 -- an answer with the length and the flags of what a take shows
 abbrev pub shows : ChannelAnswer → Message → Connection → TakeStep
@@ -177,7 +178,7 @@ request_due c f =
 unfoldable pub open_due : Connection → List ℕ → Due
 open_due c m =
     (let d = due_at c.end m in
-    record { told = told (Channel d.answer); given = d.given; frame = d.frame; connection = with_open_end c d.end })
+    record { told = told (Channel d.answer); frame = d.frame; connection = with_open_end c d.end })
 
 -- at most one frame: a closed record's A8, the C0, the A0, or what the open end has due
 unfoldable pub due_of : Connection → List ℕ → Due

@@ -14,7 +14,7 @@ ghost use Rattle.connection.specs.Calls.{gives, marked, hand_over, hand_nothing,
 
 use crate::attempt::{Attempt, new_attempt, no_attempt};
 use open_end::answers::{Answer, Told, tell};
-use open_end::{Course, Frame, OpenEnd, course_of, no_frame, shown};
+use open_end::{Course, Frame, OpenEnd, course_of, shown};
 use opening::Reply;
 use profile::Profile;
 use settings::Settings;
@@ -65,12 +65,11 @@ pub struct Arrived {
     pub connection: Connection,
 }
 
-// A frame to hand over, if one is given; else ID 0 and no bytes.
+// A frame to hand over, if there is one.
 #[derive(Clone, Copy)]
 pub struct Due {
     pub told: Told,
-    pub given: bool,
-    pub frame: Frame,
+    pub frame: Option<Frame>,
     pub connection: Connection,
 }
 
@@ -162,8 +161,7 @@ impl Connection {
     {
         Due {
             told: tell(Answer::Channel(channel::Answer::Good)),
-            given: true,
-            frame,
+            frame: Some(frame),
             connection: self,
         }
     }
@@ -174,8 +172,7 @@ impl Connection {
     {
         Due {
             told: tell(Answer::Channel(channel::Answer::Good)),
-            given: false,
-            frame: no_frame(),
+            frame: None,
             connection: self,
         }
     }
@@ -530,15 +527,10 @@ impl Connection {
     fn open_due(mut self, message: &[u8]) -> Due
         ensures { result ≡ open_due self message.now }
     {
-        let end = self.end;
-        let d = end.due(message);
-        let answer = d.answer;
-        let frame = d.frame;
-        let next = d.end;
-        self.end = next;
+        let open_end::Due { answer, frame, end } = self.end.due(message);
+        self.end = end;
         Due {
             told: tell(Answer::Channel(answer)),
-            given: d.given,
             frame,
             connection: self,
         }

@@ -455,11 +455,10 @@ impl End {
         let d = channel.due(reading::part(&message, 0, self.length));
         let next = d.channel;
         self.channel = next;
-        if !d.given {
-            return self;
+        match d.payload {
+            Some(payload) => self.handing(payload),
+            None => self,
         }
-        let payload = d.payload;
-        self.handing(payload)
     }
 
     fn handing(mut self, payload: Payload) -> End {

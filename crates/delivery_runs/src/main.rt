@@ -367,11 +367,10 @@ fn ask(mut ends: Ends, message: &[u8], line: &mut [u8]) -> Ends {
     ends.near = next;
     let answer = d.answer;
     let told = ends.with_answer(line, answer);
-    if d.given {
-        let payload = d.payload;
-        return told.sending(line, payload);
+    match d.payload {
+        Some(payload) => told.sending(line, payload),
+        None => told,
     }
-    told
 }
 
 // The far end has no message to lend.

@@ -95,7 +95,7 @@ fn alone(
         let d = turn(connection, id_of(unit, step), bytes, buffer);
         connection = d.connection;
         let frame = d.frame;
-        tally = tally.with_turn(step, bytes.len(), d.given, frame);
+        tally = tally.with_turn(step, bytes.len(), frame);
     }
     One { connection, tally }
 }
@@ -189,7 +189,7 @@ fn turns_in_place(begun: All, from: usize, end: usize, frames: &[u8], buffers: &
         let next = d.connection;
         table.places[place] = next;
         let frame = d.frame;
-        tally = tally.with_turn(step, bytes.len(), d.given, frame);
+        tally = tally.with_turn(step, bytes.len(), frame);
     }
     All { table, tally }
 }
@@ -226,7 +226,7 @@ fn turns_called(begun: All, from: usize, end: usize, frames: &[u8], buffers: &mu
         let d = t.due(place, b"");
         table = d.table;
         let frame = d.frame;
-        tally = tally.with_turn(step, bytes.len(), d.given, frame);
+        tally = tally.with_turn(step, bytes.len(), frame);
     }
     All { table, tally }
 }

@@ -9,6 +9,7 @@ use mathlib.Core.Logic.{◌≢◌, ◌⊎◌, inl, inr, ◌↔◌}
 use mathlib.Core.Path.{◌≡◌, refl, sym, ◌∙◌, ap}
 use borrow.Author.Tests.{eq-eqb, ne_eqb, eqb-true, le-leb, lt-leb}
 use Rattle.laws.proofs.Cases.{by, by-not, by_le, by-eq, either}
+use Rattle.std.specs.declared.option.Option.TheVariants.{None}
 use Rattle.opening.specs.declared.Reply.{Reply}
 use Rattle.opening.specs.declared.Reply.TheVariants.{Positive, Refused, Malformed as NoReply}
 use Rattle.telegram.specs.Kinds.{bad_block}
@@ -21,7 +22,7 @@ use Rattle.channel.specs.declared.Answer.TheVariants.{Good, Done, Disconnected, 
 use Rattle.open_end.specs.declared.answers.Answer.TheVariants.{Channel, OtherId}
 use Rattle.open_end.specs.Answers.{said}
 use Rattle.open_end.specs.OpenEnd.{arrived_at}
-use Rattle.open_end.proofs.Rules.{plainly, no_frame}
+use Rattle.open_end.proofs.Rules.{plainly}
 use Rattle.connection.specs.declared.Connection.{Connection}
 use Rattle.connection.specs.declared.Answered.{Answered as RecordAnswered}
 use Rattle.connection.specs.declared.Arrived.{Arrived as RecordArrived}
@@ -195,7 +196,7 @@ module _ (t : Table) (p : ℕ) (out : 8 ≤ p) where
   unfolding elapses
   elapse-nowhere n = rw (le-leb 8 p out)
 
-  pub due-nowhere : (m : List ℕ) → hands t p m ≡ record { told = plainly NotDue 4; given = false; frame = no_frame; table = t }
+  pub due-nowhere : (m : List ℕ) → hands t p m ≡ record { told = plainly NotDue 4; frame = None; table = t }
   unfolding hands
   due-nowhere m = rw (le-leb 8 p out)
 
@@ -222,10 +223,10 @@ module _ (t : Table) (p : ℕ) (h : p < 8) where
   elapse-at n = rw (lt-leb 8 p h) (record { told = refl; table = alone t p (elapsed (record_at t p) n).connection _ h refl })
 
   pub due-at : (m : List ℕ)
-      → (((hands t p m).told ≡ (due_of (record_at t p) m).told) × ((hands t p m).given ≡ (due_of (record_at t p) m).given) × ((hands t p m).frame ≡ (due_of (record_at t p) m).frame)
+      → (((hands t p m).told ≡ (due_of (record_at t p) m).told) × ((hands t p m).frame ≡ (due_of (record_at t p) m).frame)
       × Alone t p (due_of (record_at t p) m).connection (hands t p m).table)
   unfolding hands
-  due-at m = rw (lt-leb 8 p h) (refl, refl, refl, alone t p (due_of (record_at t p) m).connection _ h refl)
+  due-at m = rw (lt-leb 8 p h) (refl, refl, alone t p (due_of (record_at t p) m).connection _ h refl)
 
   pub send_at : (limit n : ℕ) → Answers t p (sent_by limit (record_at t p) n) (sends limit t p n)
   unfolding sends

@@ -11,7 +11,7 @@ ghost use Rattle.table.specs.Calls.{refuses, nowhere, opens, arrives, buffers, e
 
 use connection::{CLOSED, Connection};
 use open_end::answers::{Answer, Told, tell};
-use open_end::{Frame, no_frame, shown};
+use open_end::{Frame, shown};
 use settings::Settings;
 
 // How many places a table has.
@@ -54,12 +54,11 @@ pub struct Answered {
     pub table: Table,
 }
 
-// A frame that a place hands over, if one is given; else ID 0 and no bytes.
+// A frame that a place hands over, if there is one.
 #[derive(Clone, Copy)]
 pub struct Due {
     pub told: Told,
-    pub given: bool,
-    pub frame: Frame,
+    pub frame: Option<Frame>,
     pub table: Table,
 }
 
@@ -288,8 +287,7 @@ impl Table {
         if PLACES <= p {
             return Due {
                 told: tell(Answer::Channel(channel::Answer::NotDue)),
-                given: false,
-                frame: no_frame(),
+                frame: None,
                 table: self,
             };
         }
@@ -301,7 +299,6 @@ impl Table {
         self.places[p] = next;
         Due {
             told,
-            given: d.given,
             frame,
             table: self,
         }

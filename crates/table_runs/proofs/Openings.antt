@@ -4,11 +4,12 @@
 use Prim.Native.Nat.{ℕ, zero, suc, ◌+◌, ◌≤◌, ◌<◌}
 use native.Mathlib.Omega.{arith}
 use mathlib.Core.Bool.{Bool, true, false, ◌||◌}
-use mathlib.Core.Option.{Option, none, some}
 use mathlib.Core.Path.{◌≡◌, refl, sym, ◌∙◌, ap}
 use mathlib.Core.Logic.{◌≢◌}
 use lib.Dec.{leb, eqb}
 use borrow.Author.Tests.{leb-false, eqb-true, eqb-false}
+use Rattle.std.specs.declared.option.Option.{Option}
+use Rattle.std.specs.declared.option.Option.TheVariants.{None, Some}
 use Rattle.laws.proofs.Cases.{either}
 use Rattle.settings.specs.Settings.{allowed}
 use Rattle.settings.specs.declared.Settings.{Settings}
@@ -51,8 +52,8 @@ module _ (P : Connection → Bool) (t u : Table) (x : ℕ) (alike : (p : ℕ) �
 
 -- a record is closed, by what it uses
 unused : Option (ℕ × ℕ) → Bool
-unused none = true
-unused (some u) = false
+unused None = true
+unused (Some u) = false
 
 closed-unused : (c : Connection) → is_closed c ≡ unused (usage c)
 unfolding unused
@@ -60,8 +61,8 @@ closed-unused c = either (is_closed c) (λ y. rw y) (λ f. rw f)
 
 -- it has this unit or this receive ID, by what it uses
 used_in : (unit receive : ℕ) → Option (ℕ × ℕ) → Bool
-used_in unit receive none = false
-used_in unit receive (some u) = eqb u.0 unit || eqb u.1 receive
+used_in unit receive None = false
+used_in unit receive (Some u) = eqb u.0 unit || eqb u.1 receive
 
 uses-used : (unit receive : ℕ) (c : Connection) → uses_either unit receive c ≡ used_in unit receive (usage c)
 unfolding uses_either used_in

@@ -1,6 +1,7 @@
 -- 02, request 5, "The car's side for the bench": what each call answers and leaves. Rows 3, 4 and 8 of 01 are amended for this side.
-use Rattle.std.specs.Prelude.{ℕ, ◌+◌, Bool, true, false, not, ◌||◌, List, length, take, eqb, if◌then◌else◌}
+use Rattle.std.specs.Prelude.{ℕ, ◌+◌, Bool, false, not, ◌||◌, List, length, take, eqb, if◌then◌else◌}
 use Rattle.std.specs.Borrow.{Bor}
+use Rattle.std.specs.declared.option.Option.TheVariants.{None, Some}
 use Rattle.opening.specs.Opening.{request_id, request_read, reply_of}
 use Rattle.opening.specs.declared.Request.{Request}
 use Rattle.opening.specs.declared.Request.TheVariants.{Open, Malformed as NoRequest}
@@ -15,7 +16,7 @@ use Rattle.settings.specs.declared.Settings.{Settings}
 use Rattle.channel.specs.declared.Answer.{Answer as ChannelAnswer}
 use Rattle.channel.specs.declared.Answer.TheVariants.{Good, Disconnected, Malformed, BlockSize, NotDue}
 use Rattle.open_end.specs.Answers.{told}
-use Rattle.open_end.specs.OpenEnd.{no_frame, course_of, arrived_at, buffered_at, elapsed_at, due_at, sent_at, taken_at}
+use Rattle.open_end.specs.OpenEnd.{course_of, arrived_at, buffered_at, elapsed_at, due_at, sent_at, taken_at}
 use Rattle.open_end.specs.declared.answers.Answer.TheVariants.{Channel, OtherId, OutOfRange, Ended}
 use Rattle.open_end.specs.declared.answers.Told.{Told}
 use Rattle.open_end.specs.declared.Frame.{Frame}
@@ -50,11 +51,11 @@ marked p r = record { told = r.told; padded = p; unit = r.unit }
 
 -- 0 with a frame handed over
 abbrev pub hand_over : Frame → ControlUnit → Due
-hand_over f c = record { told = told (Channel Good); given = true; frame = f; unit = c }
+hand_over f c = record { told = told (Channel Good); frame = Some f; unit = c }
 
 -- 0 with no frame
 abbrev pub hand_nothing : ControlUnit → Due
-hand_nothing c = record { told = told (Channel Good); given = false; frame = no_frame; unit = c }
+hand_nothing c = record { told = told (Channel Good); frame = None; unit = c }
 
 -- an answer with the length and the flags of what a take shows
 abbrev pub shows : ChannelAnswer → Message → ControlUnit → TakeStep
@@ -156,7 +157,7 @@ accept_frame c = record { id = c.end.transmit; payload = accept_of (own_fields c
 unfoldable pub open_due : ControlUnit → List ℕ → Due
 open_due c m =
     (let d = due_at c.end m in
-    record { told = told (Channel d.answer); given = d.given; frame = d.frame; unit = with_open_end c d.end })
+    record { told = told (Channel d.answer); frame = d.frame; unit = with_open_end c d.end })
 
 -- at most one frame: a closed unit's A8 or refusal, the D0, the A1 that opens, or what the open end has due
 unfoldable pub due_of : ControlUnit → List ℕ → Due

@@ -13,7 +13,7 @@ ghost use Rattle.unit.specs.Record.{is_closed, is_replying, is_open, in_sending,
 ghost use Rattle.unit.specs.Calls.{gives, not_for_us, ends, marked, hand_over, hand_nothing, shows, set_to, on_request, on_setup, on_opening, settled, at_end, on_open, arrived, buffered, open_elapsed, elapsed, reply_frame, accept_frame, open_due, due_of, open_sent, sent_by, open_taken, taken_by, takes, looked, closed};
 
 use open_end::answers::{Answer, Told, tell};
-use open_end::{Course, Frame, OpenEnd, course_of, no_frame, shown};
+use open_end::{Course, Frame, OpenEnd, course_of, shown};
 use opening::{
     NO_RESOURCES, NOT_FOR_NOW, NOT_SUPPORTED, POSITIVE, REQUEST_ID, Request, read_request,
     write_reply,
@@ -68,12 +68,11 @@ pub struct Arrived {
     pub unit: ControlUnit,
 }
 
-// A frame to hand over, if one is given; else ID 0 and no bytes.
+// A frame to hand over, if there is one.
 #[derive(Clone, Copy)]
 pub struct Due {
     pub told: Told,
-    pub given: bool,
-    pub frame: Frame,
+    pub frame: Option<Frame>,
     pub unit: ControlUnit,
 }
 
@@ -240,8 +239,7 @@ impl ControlUnit {
     {
         Due {
             told: tell(Answer::Channel(channel::Answer::Good)),
-            given: true,
-            frame,
+            frame: Some(frame),
             unit: self,
         }
     }
@@ -252,8 +250,7 @@ impl ControlUnit {
     {
         Due {
             told: tell(Answer::Channel(channel::Answer::Good)),
-            given: false,
-            frame: no_frame(),
+            frame: None,
             unit: self,
         }
     }
@@ -470,15 +467,10 @@ impl ControlUnit {
     fn open_due(mut self, message: &[u8]) -> Due
         ensures { result ≡ open_due self message.now }
     {
-        let end = self.end;
-        let d = end.due(message);
-        let answer = d.answer;
-        let frame = d.frame;
-        let next = d.end;
-        self.end = next;
+        let open_end::Due { answer, frame, end } = self.end.due(message);
+        self.end = end;
         Due {
             told: tell(Answer::Channel(answer)),
-            given: d.given,
             frame,
             unit: self,
         }

@@ -7,13 +7,9 @@ pub tell-requires : goal.tell-requires
 unfolding hands
 tell-requires c = search rules
 
-pub no_frame-requires : goal.no_frame-requires
-unfolding hands
-no_frame-requires c = search rules
-
 pub returns-then-p-ge-PLACES : goal.returns-then-p-ge-PLACES
 unfolding hands
-returns-then-p-ge-PLACES c = rw (c.no_frame.ensures, c.tell.ensures, le-leb 8 _ c.if-p-ge-PLACES.true)
+returns-then-p-ge-PLACES c = rw (c.tell.ensures, le-leb 8 _ c.if-p-ge-PLACES.true)
 
 pub due-d-requires : goal.due-d-requires
 unfolding hands

@@ -1,4 +1,4 @@
 use Rattle.unit.proofs.ControlUnit.hand_nothing.Goals as goal
 
 pub returns : goal.returns
-returns c = rw (c.no_frame.ensures, c.tell.ensures)
+returns c = rw c.tell.ensures
