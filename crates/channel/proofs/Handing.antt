@@ -4,6 +4,8 @@ use native.Mathlib.Omega.{arith}
 use mathlib.Core.Bool.{true, false, true≢false, false≢true}
 use mathlib.Core.List.{List}
 use mathlib.Core.Path.{◌≡◌, refl, sym}
+use Rattle.std.specs.Option.{is_some}
+use Rattle.std.specs.declared.option.Option.TheVariants.{Some}
 use Rattle.laws.proofs.Branches.{on, off}
 use Rattle.laws.proofs.Cases.{either}
 use Rattle.telegram.specs.Kinds.{ack_of, test_of, accept_of}
@@ -12,7 +14,7 @@ use Rattle.sender.specs.declared.Sender.{Sender}
 use Rattle.sender.specs.declared.Handed.{Handed}
 use Rattle.sender.specs.declared.Handing.{Handing}
 use Rattle.sender.specs.declared.Handing.TheVariants.{Frame, Nothing, OtherLength as NotAccepted}
-use Rattle.sender.specs.Sending.{unacknowledged, handed}
+use Rattle.sender.specs.Sending.{unacknowledged, is_frame, handed_payload, handed}
 use Rattle.sender.proofs.Frames.{handed-sized}
 use Rattle.receiver.specs.Receiving.{ack_handed}
 use Rattle.channel.specs.declared.Answer.{Answer}
@@ -21,7 +23,7 @@ use Rattle.channel.specs.declared.Tests.{Tests}
 use Rattle.channel.specs.declared.Channel.{Channel}
 use Rattle.channel.specs.declared.Due.{Due}
 use Rattle.channel.specs.Numbers.{closes}
-use Rattle.channel.specs.Opened.{with_sender, with_receiver, with_tests, with_accept, test_due, hand_over, hand_nothing, hand_accept, hand_test, hand_ack, hand_by, hand_data, due}
+use Rattle.channel.specs.Opened.{with_sender, with_receiver, with_tests, with_accept, given_payload, test_due, hand_over, hand_nothing, hand_accept, hand_test, hand_ack, hand_by, hand_data, due}
 
 -- ---- which telegram goes
 
@@ -68,15 +70,14 @@ pub data DueOutcome (c : Channel) : Handed → Due → Type 0 where
   test-goes : {h : Handed} → c.accept ≡ false → test_due c ≡ true → DueOutcome c h (hand_over (with_tests c (test_out c)) test_of)
   ack-goes : {h : Handed} → c.accept ≡ false → test_due c ≡ false → c.receiver.ack.due ≡ true
       → DueOutcome c h (hand_over (with_receiver c (ack_handed c.receiver)) (ack_of c.receiver.ack.ready c.receiver.ack.number))
-  frame-goes : {s : Sender} {p : Payload} → DataTurn c → DueOutcome c (record { note = Frame; sender = s; payload = p }) (hand_over (with_sender c s) p)
-  none-goes : {s : Sender} {p : Payload} → DataTurn c → DueOutcome c (record { note = Nothing; sender = s; payload = p }) (hand_nothing c Good)
-  other_length : {s : Sender} {p : Payload} → DataTurn c → DueOutcome c (record { note = NotAccepted; sender = s; payload = p }) (hand_nothing c OtherLength)
+  frame-goes : {s : Sender} {p : Payload} → DataTurn c → DueOutcome c (record { note = Frame p; sender = s }) (hand_over (with_sender c s) p)
+  none-goes : {s : Sender} → DataTurn c → DueOutcome c (record { note = Nothing; sender = s }) (hand_nothing c Good)
+  other_length : {s : Sender} → DataTurn c → DueOutcome c (record { note = NotAccepted; sender = s }) (hand_nothing c OtherLength)
 
-data-turn : (c : Channel) → DataTurn c → (note : Handing) (s : Sender) (p : Payload)
-    → (let h : Handed = record { note = note; sender = s; payload = p } in DueOutcome c h (hand_by c h note))
-data-turn c t Frame s p = frame-goes t
-data-turn c t Nothing s p = none-goes t
-data-turn c t NotAccepted s p = other_length t
+data-turn : (c : Channel) → DataTurn c → (note : Handing) (s : Sender) → (let h : Handed = record { note = note; sender = s } in DueOutcome c h (hand_by c h note))
+data-turn c t (Frame p) s = frame-goes t
+data-turn c t Nothing s = none-goes t
+data-turn c t NotAccepted s = other_length t
 
 pub due-outcome : (c : Channel) (m : List ℕ) → DueOutcome c (handed c.parameters.terms c.sender m) (due c m)
 unfolding hand_accept hand_test hand_ack
@@ -85,7 +86,7 @@ due-outcome c m =
     either c.accept (λ a. rw (due-accept c m a) (accept-goes a)) λ a.
     either (test_due c) (λ t. rw (due-test c m a t) (test-goes a t)) λ t.
     either c.receiver.ack.due (λ k. rw (due-ack c m a t k) (ack-goes a t k)) λ k.
-    rw (due-data c m a t k) (data-turn c (record { accept = a; test = t; ack = k }) h.note h.sender h.payload)
+    rw (due-data c m a t k) (data-turn c (record { accept = a; test = t; ack = k }) h.note h.sender)
 
 -- ---- what every call gives
 
@@ -96,20 +97,20 @@ pub record Sized (p : Payload) : Type 0 where
 
 -- a telegram, which restarts the interval, or nothing; and nothing is closed
 pub record Gives (c : Channel) (x : Due) : Type 0 where
-  pub sized : x.given ≡ true → Sized x.payload
-  pub none : x.given ≡ false → x ≡ hand_nothing c x.answer
-  pub restarts : x.given ≡ true → x.channel.tests.interval ≡ c.parameters.interval
+  pub sized : is_some x.payload ≡ true → Sized (given_payload x.payload)
+  pub none : is_some x.payload ≡ false → x ≡ hand_nothing c x.answer
+  pub restarts : is_some x.payload ≡ true → x.channel.tests.interval ≡ c.parameters.interval
   pub goes_on : closes x.answer ≡ false
 
 module _ {c : Channel} where
   gives_one : {d : Channel} (p : Payload) → d.tests.interval ≡ c.parameters.interval → Sized p
-      → Gives c (record { answer = Good; given = true; payload = p; channel = d })
+      → Gives c (record { answer = Good; payload = Some p; channel = d })
   gives_one p whole s = record { sized = λ _. s; none = λ e. absurd (true≢false e); restarts = λ _. whole; goes_on = refl }
 
   gives_none : (a : Answer) → closes a ≡ false → Gives c (hand_nothing c a)
   gives_none a e = record { sized = λ e. absurd (false≢true e); none = λ _. refl; restarts = λ e. absurd (false≢true e); goes_on = e }
 
-  outcome-gives : {h : Handed} {x : Due} → (h.note ≡ Frame → Sized h.payload) → DueOutcome c h x → Gives c x
+  outcome-gives : {h : Handed} {x : Due} → (is_frame h.note ≡ true → Sized (handed_payload h.note)) → DueOutcome c h x → Gives c x
   outcome-gives sized (accept-goes a) = gives_one (accept_of c.parameters.own) refl (omega arith)
   outcome-gives sized (test-goes a t) = gives_one test_of refl (omega arith)
   outcome-gives sized (ack-goes a t k) = gives_one (ack_of c.receiver.ack.ready c.receiver.ack.number) refl (omega arith)
@@ -123,15 +124,15 @@ module _ (c : Channel) (m : List ℕ) where
       outcome-gives (λ e. let b = handed-sized c.parameters.terms c.sender m e in record { some = b.0; most = b.1 }) (due-outcome c m)
 
   -- a telegram given has one to eight bytes
-  pub due-sized : (due c m).given ≡ true → Sized (due c m).payload
+  pub due-sized : is_some (due c m).payload ≡ true → Sized (given_payload (due c m).payload)
   due-sized = due-gives.sized
 
   -- nothing given means no bytes, and a channel as it was
-  pub due-none : (due c m).given ≡ false → due c m ≡ hand_nothing c (due c m).answer
+  pub due-none : is_some (due c m).payload ≡ false → due c m ≡ hand_nothing c (due c m).answer
   due-none = due-gives.none
 
   -- a hand-over restarts the interval
-  pub due-restarts : (due c m).given ≡ true → (due c m).channel.tests.interval ≡ c.parameters.interval
+  pub due-restarts : is_some (due c m).payload ≡ true → (due c m).channel.tests.interval ≡ c.parameters.interval
   due-restarts = due-gives.restarts
 
   -- nothing is closed by it

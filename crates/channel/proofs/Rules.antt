@@ -9,12 +9,14 @@ use lib.Dec.{ltb, eqb}
 use lib.ListN.{length}
 use borrow.Author.Tests.{ltb-true, ltb-false, eqb-true, not-true, lt-ltb, le-ltb, le-leb, lt-leb, ne_eqb}
 use Rattle.laws.proofs.Cases.{either, both, same}
+use Rattle.std.specs.declared.option.Option.TheVariants.{None, Some}
 use Rattle.sender.specs.declared.Handed.{Handed}
 use Rattle.sender.specs.declared.Passed.{Passed}
 use Rattle.sender.specs.declared.Passing.{Passing}
 use Rattle.sender.specs.declared.Passing.TheVariants.{Quiet, Again, UsedUp as RanOut}
-use Rattle.sender.specs.Sending.{handed, passed, offered}
+use Rattle.sender.specs.Sending.{handed_payload, handed, passed, offered}
 use Rattle.sender.proofs.Rules.{offered-leaves, offered-busy, offered-empty, offered-over}
+use Rattle.sender.proofs.Frames.{frame-given}
 use Rattle.sender.proofs.FrameRules.{Ready, frame-exactly, frame-other-length, frame-none}
 use Rattle.sender.proofs.Time.{passed-used_up}
 use Rattle.receiver.specs.declared.Cause.{Cause}
@@ -123,8 +125,7 @@ module _ (c : Channel) (m : List ℕ) where
   pub due-accept-fields : c.accept ≡ true → due c m
       ≡ record {
         answer = Good;
-        given = true;
-        payload = record { len = 6; bytes = 0xA1 ∷ c.parameters.own.block ∷ c.parameters.own.t1 ∷ 0xFF ∷ c.parameters.own.t3 ∷ 0xFF ∷ 0 ∷ 0 ∷ [] };
+        payload = Some (record { len = 6; bytes = 0xA1 ∷ c.parameters.own.block ∷ c.parameters.own.t1 ∷ 0xFF ∷ c.parameters.own.t3 ∷ 0xFF ∷ 0 ∷ 0 ∷ [] });
         channel = record {
           parameters = c.parameters;
           sender = c.sender;
@@ -140,8 +141,7 @@ module _ (c : Channel) (m : List ℕ) where
   pub due-test-fields : c.accept ≡ false → TestDue c → due c m
       ≡ record {
         answer = Good;
-        given = true;
-        payload = record { len = 1; bytes = 0xA3 ∷ 0 ∷ 0 ∷ 0 ∷ 0 ∷ 0 ∷ 0 ∷ 0 ∷ [] };
+        payload = Some (record { len = 1; bytes = 0xA3 ∷ 0 ∷ 0 ∷ 0 ∷ 0 ∷ 0 ∷ 0 ∷ 0 ∷ [] });
         channel = record {
           parameters = c.parameters;
           sender = c.sender;
@@ -157,8 +157,7 @@ module _ (c : Channel) (m : List ℕ) where
   pub due-ack-ready : c.accept ≡ false → (TestDue c → ⊥) → c.receiver.ack.due ≡ true → c.receiver.ack.ready ≡ true → due c m
       ≡ record {
         answer = Good;
-        given = true;
-        payload = record { len = 1; bytes = (0xB0 + c.receiver.ack.number % 16) ∷ 0 ∷ 0 ∷ 0 ∷ 0 ∷ 0 ∷ 0 ∷ 0 ∷ [] };
+        payload = Some (record { len = 1; bytes = (0xB0 + c.receiver.ack.number % 16) ∷ 0 ∷ 0 ∷ 0 ∷ 0 ∷ 0 ∷ 0 ∷ 0 ∷ [] });
         channel = record {
           parameters = c.parameters;
           sender = c.sender;
@@ -174,8 +173,7 @@ module _ (c : Channel) (m : List ℕ) where
   pub due-ack-not-ready : c.accept ≡ false → (TestDue c → ⊥) → c.receiver.ack.due ≡ true → c.receiver.ack.ready ≡ false → due c m
       ≡ record {
         answer = Good;
-        given = true;
-        payload = record { len = 1; bytes = (0x90 + c.receiver.ack.number % 16) ∷ 0 ∷ 0 ∷ 0 ∷ 0 ∷ 0 ∷ 0 ∷ 0 ∷ [] };
+        payload = Some (record { len = 1; bytes = (0x90 + c.receiver.ack.number % 16) ∷ 0 ∷ 0 ∷ 0 ∷ 0 ∷ 0 ∷ 0 ∷ 0 ∷ [] });
         channel = record {
           parameters = c.parameters;
           sender = c.sender;
@@ -191,8 +189,7 @@ module _ (c : Channel) (m : List ℕ) where
   pub due-frame-fields : c.accept ≡ false → (TestDue c → ⊥) → c.receiver.ack.due ≡ false → Ready c.sender → length m ≡ c.sender.length → due c m
       ≡ record {
         answer = Good;
-        given = true;
-        payload = (handed c.parameters.terms c.sender m).payload;
+        payload = Some (handed_payload (handed c.parameters.terms c.sender m).note);
         channel = record {
           parameters = c.parameters;
           sender = (handed c.parameters.terms c.sender m).sender;
@@ -201,17 +198,17 @@ module _ (c : Channel) (m : List ℕ) where
           accept = false;
         };
       }
-  due-frame-fields a t k r e = due-data c m a (no_test c t) k ∙ rw ((frame-exactly c.parameters.terms c.sender m).1 (r, e), a)
+  due-frame-fields a t k r e = due-data c m a (no_test c t) k ∙ rw (frame-given _ ((frame-exactly c.parameters.terms c.sender m).1 (r, e)), a)
 
   -- row 7, "lent message not of the accepted length", "only when the frame to hand over is data": nothing changes
   pub due-other-length : c.accept ≡ false → (TestDue c → ⊥) → c.receiver.ack.due ≡ false → Ready c.sender → length m ≢ c.sender.length → due c m
-      ≡ record { answer = OtherLength; given = false; payload = record { len = 0; bytes = 0 ∷ 0 ∷ 0 ∷ 0 ∷ 0 ∷ 0 ∷ 0 ∷ 0 ∷ [] }; channel = c }
+      ≡ record { answer = OtherLength; payload = None; channel = c }
   due-other-length a t k r e =
       due-data c m a (no_test c t) k ∙ rw (frame-other-length c.parameters.terms c.sender m r e)
 
   -- "with nothing due the answer is 0 and no frame"
   pub due-nothing : c.accept ≡ false → (TestDue c → ⊥) → c.receiver.ack.due ≡ false → (Ready c.sender → ⊥) → due c m
-      ≡ record { answer = Good; given = false; payload = record { len = 0; bytes = 0 ∷ 0 ∷ 0 ∷ 0 ∷ 0 ∷ 0 ∷ 0 ∷ 0 ∷ [] }; channel = c }
+      ≡ record { answer = Good; payload = None; channel = c }
   due-nothing a t k r = due-data c m a (no_test c t) k ∙ rw (frame-none c.parameters.terms c.sender m r)
 
   -- no hand-over ends "out"

@@ -1,5 +1,8 @@
 -- 01, "Telegrams on an open connection": what a channel does as time passes, when a frame is asked for, and when a message is offered.
 use Rattle.std.specs.Prelude.{ℕ, ◌+◌, ◌-◌, Bool, true, false, not, ◌&&◌, ◌||◌, List, [], ltb, leb, eqb, if◌then◌else◌}
+use Rattle.std.specs.Option.{unwrap_or}
+use Rattle.std.specs.declared.option.Option.{Option}
+use Rattle.std.specs.declared.option.Option.TheVariants.{None, Some}
 use Rattle.telegram.specs.Outgoing.{payload_of}
 use Rattle.telegram.specs.Kinds.{ack_of, test_of, accept_of}
 use Rattle.telegram.specs.declared.payload.Payload.{Payload}
@@ -91,6 +94,10 @@ elapsed c n =
 
 -- ---- a frame is asked for
 
+-- the bytes that are given, and none where no telegram is
+abbrev pub given_payload : Option Payload → Payload
+given_payload o = unwrap_or o (payload_of [])
+
 -- a test goes out with none out after the interval, or again after a wait that ran out; never while data is unacknowledged
 unfoldable pub test_due : Channel → Bool
 test_due c =
@@ -99,11 +106,11 @@ test_due c =
 
 -- a telegram handed over, which starts the interval again
 abbrev pub hand_over : Channel → Payload → Due
-hand_over c p = record { answer = Good; given = true; payload = p; channel = restarted c }
+hand_over c p = record { answer = Good; payload = Some p; channel = restarted c }
 
 -- nothing handed over: nothing is due, or row 7
 abbrev pub hand_nothing : Channel → Answer → Due
-hand_nothing c a = record { answer = a; given = false; payload = payload_of []; channel = c }
+hand_nothing c a = record { answer = a; payload = None; channel = c }
 
 -- our A1, with the fields of our A0
 unfoldable pub hand_accept : Channel → Due
@@ -122,7 +129,7 @@ hand_ack c = hand_over (with_receiver c (ack_handed c.receiver)) (ack_of c.recei
 
 -- what the sending half found: data, none due, or row 7, a lent message not of the accepted length
 abbrev pub hand_by : Channel → Handed → Handing → Due
-hand_by c h Frame = hand_over (with_sender c h.sender) h.payload
+hand_by c h (Frame p) = hand_over (with_sender c h.sender) p
 hand_by c h NoFrame = hand_nothing c Good
 hand_by c h NotAccepted = hand_nothing c OtherLength
 

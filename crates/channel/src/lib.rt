@@ -12,7 +12,7 @@ ghost use Rattle.channel.specs.Numbers.{plain, said};
 ghost use Rattle.channel.specs.Opened.{fresh, restarted, offer_answer, wait_ends, later, repeats_used_up, went, elapsed, test_due, hand_over, hand_nothing, hand_accept, hand_test, hand_ack, hand_data, due, sent};
 
 use receiver::{Cause, Receiver};
-use sender::{Handing, OfferError, Offered, Passing, Sender, Terms};
+use sender::{Handed, Handing, OfferError, Offered, Passing, Sender, Terms};
 use telegram::kinds::{write_accept, write_ack, write_test};
 use telegram::payload::Payload;
 use telegram::time::less;
@@ -95,12 +95,11 @@ pub struct Answered {
     pub channel: Channel,
 }
 
-// A telegram to hand over, if one is given; else no bytes.
+// A telegram to hand over, if there is one.
 #[derive(Clone, Copy)]
 pub struct Due {
     pub answer: Answer,
-    pub given: bool,
-    pub payload: Payload,
+    pub payload: Option<Payload>,
     pub channel: Channel,
 }
 
@@ -337,15 +336,10 @@ impl Channel {
     fn hand_data(mut self, message: &[u8]) -> Due
         ensures { result ≡ hand_data self message.now }
     {
-        let sender = self.sender;
-        let parameters = self.parameters;
-        let h = sender.hand(parameters.terms, message);
-        let note = h.note;
+        let Handed { note, sender } = self.sender.hand(self.parameters.terms, message);
         match note {
-            Handing::Frame => {
-                let next = h.sender;
-                let payload = h.payload;
-                self.sender = next;
+            Handing::Frame(payload) => {
+                self.sender = sender;
                 self.hand_over(payload)
             }
             Handing::Nothing => self.hand_nothing(Answer::Good),
@@ -359,8 +353,7 @@ impl Channel {
     {
         Due {
             answer: Answer::Good,
-            given: true,
-            payload,
+            payload: Some(payload),
             channel: self.restarted(),
         }
     }
@@ -371,11 +364,7 @@ impl Channel {
     {
         Due {
             answer,
-            given: false,
-            payload: Payload {
-                len: 0,
-                bytes: [0, 0, 0, 0, 0, 0, 0, 0],
-            },
+            payload: None,
             channel: self,
         }
     }

@@ -7,6 +7,7 @@ use mathlib.Core.List.{List, [], ◌∷◌}
 use mathlib.Core.Path.{◌≡◌}
 use borrow.Author.Tests.{eq-eqb, ne_eqb, lt-ltb, le-ltb}
 use Rattle.laws.proofs.Cases.{either}
+use Rattle.std.specs.declared.option.Option.TheVariants.{None, Some}
 use Rattle.telegram.specs.Kinds.{bad_block, kind_of}
 use Rattle.profile.specs.Profile.{sorted_by}
 use Rattle.settings.proofs.Agreement.{unit, tenths-are}
@@ -14,7 +15,7 @@ use Rattle.channel.specs.declared.Answer.TheVariants.{Good, Disconnected, Malfor
 use Rattle.connection.specs.declared.Connection.{Connection}
 use Rattle.connection.specs.Record.{listens_on, hears}
 use Rattle.connection.specs.Calls.{on_accept, on_agreeing, arrived, buffered, request_due, due_of, sent_by, taken_by, closed}
-use Rattle.open_end.proofs.Rules.{plainly, no_frame}
+use Rattle.open_end.proofs.Rules.{plainly}
 use Rattle.connection.proofs.Rules.{at_rest}
 
 -- ---- the A0
@@ -25,12 +26,13 @@ module _ (c : Connection) (agreeing' : c.phase ≡ 2) where
       → due_of c m
       ≡ record {
         told = plainly Good 0;
-        given = true;
         frame =
+            Some (
             record {
               id = c.end.transmit;
               payload = record { len = 6; bytes = 0xA0 ∷ c.settings.block ∷ c.settings.t1 ∷ 0xFF ∷ c.settings.t3 ∷ 0xFF ∷ 0 ∷ 0 ∷ [] };
-            };
+            }
+            );
         left =
             record {
               phase = 2;
@@ -44,7 +46,7 @@ module _ (c : Connection) (agreeing' : c.phase ≡ 2) where
   unfolding due_of request_due
   due_of-setup m d = rw (agreeing', d)
 
-  pub due_of-setup-out : (m : List ℕ) → c.attempt.due ≡ false → due_of c m ≡ record { told = plainly Good 0; given = false; frame = no_frame; left = c }
+  pub due_of-setup-out : (m : List ℕ) → c.attempt.due ≡ false → due_of c m ≡ record { told = plainly Good 0; frame = None; left = c }
   unfolding due_of request_due
   due_of-setup-out m d = rw (agreeing', d)
 

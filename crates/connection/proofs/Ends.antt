@@ -9,6 +9,8 @@ use lib.Dec.{eqb}
 use lib.ListN.{length}
 use borrow.Author.Tests.{eq-eqb, ne_eqb, lt-ltb, le-ltb}
 use Rattle.laws.proofs.Cases.{or-first, or-second}
+use Rattle.std.specs.declared.option.Option.TheVariants.{None, Some}
+use Rattle.telegram.specs.declared.payload.Payload.{Payload}
 use Rattle.telegram.specs.Kinds.{kind_of}
 use Rattle.profile.specs.Profile.{sorted_by}
 use Rattle.receiver.specs.Receiving.{received, buffered as buffered_by, took}
@@ -22,7 +24,7 @@ use Rattle.open_end.specs.OpenEnd.{course_of, arrived_at, buffered_at, elapsed_a
 use Rattle.connection.specs.declared.Connection.{Connection}
 use Rattle.connection.specs.Record.{listens_on, hears}
 use Rattle.connection.specs.Calls.{settled, on_open, arrived, buffered, open_elapsed, elapsed, open_due, due_of, open_sent, sent_by, open_taken, taken_by, closed}
-use Rattle.open_end.proofs.Rules.{plainly, no_frame}
+use Rattle.open_end.proofs.Rules.{plainly}
 use Rattle.connection.proofs.Rules.{at_rest}
 
 -- the same record with another channel
@@ -94,26 +96,24 @@ module _ (c : Connection) (open' : c.phase ≡ 3) where
   -- ---- what is due
 
   -- a telegram of the channel goes out on the transmit ID
-  pub due_of-given : (m : List ℕ) → (let d = due c.end.channel m in
-      d.given ≡ true
+  pub due_of-given : (m : List ℕ) (p : Payload) → (let d = due c.end.channel m in
+      d.payload ≡ Some p
       → due_of c m
       ≡ record {
         told = record { answer = ByChannel d.answer; said = record { number = (said d.answer).number; done = (said d.answer).done; opcode = 0 } };
-        given = true;
-        frame = record { id = c.end.transmit; payload = d.payload };
+        frame = Some (record { id = c.end.transmit; payload = p });
         left = holding c d.channel;
       })
   unfolding due_of open_due due_at frame_on
-  due_of-given m g = rw (open', g)
+  due_of-given m p g = rw (open', g)
 
   -- and with none there is no frame
   pub due_of-none : (m : List ℕ) → (let d = due c.end.channel m in
-      d.given ≡ false
+      d.payload ≡ None
       → due_of c m
       ≡ record {
         told = record { answer = ByChannel d.answer; said = record { number = (said d.answer).number; done = (said d.answer).done; opcode = 0 } };
-        given = false;
-        frame = no_frame;
+        frame = None;
         left = holding c d.channel;
       })
   unfolding due_of open_due due_at frame_on

@@ -17,7 +17,7 @@ use Rattle.profile.proofs.Rules.{no_test, no-break}
 use Rattle.settings.specs.Settings.{defaults16, allowed_by}
 use Rattle.channel.specs.declared.Answer.TheVariants.{Malformed, NotDue}
 use Rattle.arrival.specs.Arrived.{answered, on_accept as channel_accept, arrived as channel_arrived}
-use Rattle.open_end.specs.OpenEnd.{course_of, arrived_at}
+use Rattle.open_end.specs.OpenEnd.{given_frame, course_of, arrived_at}
 use Rattle.open_end.proofs.Rules.{plainly}
 use Rattle.connection.specs.declared.Connection.{Connection}
 use Rattle.connection.specs.Record.{closed_record, listens_on, hears}
@@ -27,7 +27,7 @@ use Rattle.connection.specs.Calls.{opening_as, on_reply, on_agreeing, settled, o
 
 -- each row's opening with its defaults: the ID and the bytes of the C0
 abbrev first_frame : Profile → ℕ × List ℕ
-first_frame p = (let d = due_of (opening_as closed_record p (defaults16 p)).left [] in (d.frame.id, bytes_of d.frame.payload))
+first_frame p = (let f = given_frame (due_of (opening_as closed_record p (defaults16 p)).left []).frame in (f.id, bytes_of f.payload))
 
 -- drive's goes out on 0x200, the others' on 0x2D0 (001, table 1); to the lowest unit (table 3), naming the lowest receive ID without its offset (table 5)
 pub rows-ask : map first_frame (drive ∷ comfort ∷ high ∷ low ∷ [])

@@ -9,6 +9,7 @@ use lib.ListN.{length}
 use borrow.Author.Tests.{eq-eqb, ne_eqb, lt-ltb, le-leb, lt-leb}
 use Rattle.laws.proofs.Branches.{and-off'}
 use Rattle.laws.proofs.Cases.{either}
+use Rattle.std.specs.declared.option.Option.TheVariants.{None, Some}
 use Rattle.opening.specs.Opening.{clear, reply_read}
 use Rattle.opening.specs.Short.{short_reply_read}
 use Rattle.profile.specs.Profile.{within}
@@ -18,7 +19,7 @@ use Rattle.settings.specs.Settings.{allowed_by, allowed}
 use Rattle.settings.specs.declared.Settings.{Settings}
 use Rattle.channel.specs.declared.Answer.TheVariants.{Good, Malformed, NotDue}
 use Rattle.open_end.specs.declared.answers.Answer.TheVariants.{OtherId, OutOfRange, Refused}
-use Rattle.open_end.proofs.Rules.{no_channel, plainly, no_frame}
+use Rattle.open_end.proofs.Rules.{no_channel, plainly}
 use Rattle.connection.specs.declared.Connection.{Connection}
 use Rattle.connection.specs.Record.{closed_record, leaving_on, listens_on, hears}
 use Rattle.connection.specs.Calls.{opening_as, opening, on_reply, arrived, buffered, elapsed, closed_due, request_due, due_of, sent_by, taken_by, closed}
@@ -113,7 +114,7 @@ module _ (c : Connection) (closed' : c.phase ≡ 0) where
   unfolding elapsed
   elapsed-closed n = rw closed'
 
-  pub due_of-closed : (m : List ℕ) → c.leaving ≡ false → due_of c m ≡ record { told = plainly Good 0; given = false; frame = no_frame; left = c }
+  pub due_of-closed : (m : List ℕ) → c.leaving ≡ false → due_of c m ≡ record { told = plainly Good 0; frame = None; left = c }
   unfolding due_of closed_due
   due_of-closed m l = rw (closed', l)
 
@@ -122,8 +123,7 @@ module _ (c : Connection) (closed' : c.phase ≡ 0) where
       → due_of c m
       ≡ record {
         told = plainly Good 0;
-        given = true;
-        frame = record { id = c.end.transmit; payload = record { len = 1; bytes = 0xA8 ∷ 0 ∷ 0 ∷ 0 ∷ 0 ∷ 0 ∷ 0 ∷ 0 ∷ [] } };
+        frame = Some (record { id = c.end.transmit; payload = record { len = 1; bytes = 0xA8 ∷ 0 ∷ 0 ∷ 0 ∷ 0 ∷ 0 ∷ 0 ∷ 0 ∷ [] } });
         left = at_rest false 0;
       }
   unfolding due_of closed_due
@@ -215,8 +215,8 @@ module _ (c : Connection) (requesting' : c.phase ≡ 1) where
       → due_of c m
       ≡ record {
         told = plainly Good 0;
-        given = true;
         frame =
+            Some (
             record {
               id = 0x200;
               payload =
@@ -224,7 +224,8 @@ module _ (c : Connection) (requesting' : c.phase ≡ 1) where
                     len = 7;
                     bytes = c.settings.unit ∷ 0xC0 ∷ 0x00 ∷ 0x10 ∷ c.settings.receive % 256 ∷ c.settings.receive / 256 % 8 ∷ 0x01 ∷ 0 ∷ [];
                   };
-            };
+            }
+            );
         left = asked;
       }
   unfolding due_of request_due request_for
@@ -235,14 +236,13 @@ module _ (c : Connection) (requesting' : c.phase ≡ 1) where
       → due_of c m
       ≡ record {
         told = plainly Good 0;
-        given = true;
-        frame = record { id = c.profile.request; payload = record { len = 3; bytes = c.settings.unit ∷ 0xC0 ∷ c.settings.receive % 256 ∷ 0 ∷ 0 ∷ 0 ∷ 0 ∷ 0 ∷ [] } };
+        frame = Some (record { id = c.profile.request; payload = record { len = 3; bytes = c.settings.unit ∷ 0xC0 ∷ c.settings.receive % 256 ∷ 0 ∷ 0 ∷ 0 ∷ 0 ∷ 0 ∷ [] } });
         left = asked;
       }
   unfolding due_of request_due request_for
   due_of-request-16 m t d = rw (requesting', d, t)
 
-  pub due_of-requested : (m : List ℕ) → c.attempt.due ≡ false → due_of c m ≡ record { told = plainly Good 0; given = false; frame = no_frame; left = c }
+  pub due_of-requested : (m : List ℕ) → c.attempt.due ≡ false → due_of c m ≡ record { told = plainly Good 0; frame = None; left = c }
   unfolding due_of request_due
   due_of-requested m d = rw (requesting', d)
 

@@ -1,6 +1,7 @@
 -- 01, "The record and its calls", "Opening" and "Numbers we answer with": what each call answers and leaves.
 use Rattle.std.specs.Prelude.{ℕ, ◌+◌, ◌-◌, true, false, not, ◌||◌, List, length, ltb, leb, eqb, if◌then◌else◌}
 use Rattle.std.specs.Borrow.{Bor}
+use Rattle.std.specs.declared.option.Option.TheVariants.{None, Some}
 use Rattle.telegram.specs.Kinds.{bad_block, setup_of, disconnect_of}
 use Rattle.opening.specs.Opening.{Reply, Positive, Refused as RefusedBy, NoReply}
 use Rattle.telegram.specs.declared.kinds.Parameters.{Parameters as Fields}
@@ -152,7 +153,7 @@ request_due c f =
 unfoldable pub open_due : Connection → List ℕ → Due Connection
 open_due c m =
     (let d = due_at c.end m in
-    record { told = told (Channel d.answer); given = d.given; frame = d.frame; left = with_open_end c d.end })
+    record { told = told (Channel d.answer); frame = d.frame; left = with_open_end c d.end })
 
 -- at most one frame: a closed record's A8, the C0, the A0, or what the open end has due
 unfoldable pub due_of : Connection → List ℕ → Due Connection

@@ -15,7 +15,7 @@ ghost use Rattle.open_end.specs.Answers.{looked, gives, marked, hand_over, hand_
 
 use crate::attempt::{Attempt, new_attempt, no_attempt};
 use open_end::answers::{Answer, Answered, Arrived, Due, Record, TakeStep, Taken, tell};
-use open_end::{Course, Frame, OpenEnd, course_of, no_frame, shown};
+use open_end::{Course, Frame, OpenEnd, course_of, shown};
 use opening::ReplyError;
 use profile::Profile;
 use settings::Settings;
@@ -430,15 +430,10 @@ impl Connection {
     fn open_due(mut self, message: &[u8]) -> Due<Connection>
         ensures { result ≡ open_due self message.now }
     {
-        let end = self.end;
-        let d = end.due(message);
-        let answer = d.answer;
-        let frame = d.frame;
-        let next = d.end;
-        self.end = next;
+        let open_end::Due { answer, frame, end } = self.end.due(message);
+        self.end = end;
         Due {
             told: tell(Answer::Channel(answer)),
-            given: d.given,
             frame,
             left: self,
         }

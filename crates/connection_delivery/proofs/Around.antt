@@ -3,9 +3,12 @@ use Rattle.std.specs.Prelude.{if◌then◌else◌}
 use Prim.Native.Nat.{ℕ, ◌≤◌}
 use mathlib.Core.Bool.{Bool, true, false, not, ◌||◌, false≢true}
 use mathlib.Core.List.{List, []}
-use mathlib.Core.Path.{◌≡◌, refl, subst}
+use mathlib.Core.Path.{◌≡◌, refl, subst, sym, ap, ◌∙◌}
 use lib.Dec.{eqb}
 use lib.ListN.{drop}
+use Rattle.std.specs.Option.{is_some}
+use Rattle.open_end.specs.OpenEnd.{given_frame}
+use Rattle.open_end.proofs.Rules.{frame_on-some, frame_on-id, frame_on-payload}
 use Rattle.telegram.specs.Outgoing.{bytes_of}
 use Rattle.telegram.specs.Cutting.{none}
 use Rattle.telegram.specs.Kinds.{sorted}
@@ -17,12 +20,14 @@ use Rattle.channel.specs.declared.Answer.TheVariants.{Good, NotDue}
 use Rattle.channel.specs.Numbers.{said}
 use Rattle.channel.proofs.Closing.{Settles}
 use Rattle.channel.proofs.Passing.{elapsed-settles, sent-goes-on}
+use Rattle.telegram.specs.declared.payload.Payload.{Payload}
+use Rattle.channel.specs.Opened.{due}
 use Rattle.channel.proofs.Handing.{due-goes-on}
 use Rattle.arrival.proofs.Arriving.{arrived-settles}
 use Rattle.open_end.specs.declared.OpenEnd.{OpenEnd}
 use Rattle.open_end.specs.declared.Course.{Course}
 use Rattle.open_end.specs.declared.Course.TheVariants.{GoesOn, GivenUp}
-use Rattle.open_end.specs.OpenEnd.{with_channel, course_of, sent_at, take_answer, taken_at, elapsed_at, frame_on, due_at, arrived_at, buffered_at}
+use Rattle.open_end.specs.OpenEnd.{with_channel, course_of, sent_at, take_answer, taken_at, elapsed_at, due_at, arrived_at, buffered_at}
 use Rattle.delivery.specs.End.{Told, End}
 use Rattle.delivery.specs.Line.{Line, line_after, line_send, take_number, line_take, line_time, line_due, line_arrive, line_buffered}
 use Rattle.delivery.specs.System.{Party}
@@ -64,7 +69,7 @@ pub record Around (limit : ℕ) (carried : Telegram → Type 0) (Kept : Channel 
   pub takes : (room : ℕ) → E.take x room ≡ (let t = taken_at end room in record { number = (said t.answer).number; message = t.message; state = left GoesOn t.end })
   pub times : (n : ℕ) → E.time x n ≡ (let r = elapsed_at end n in tells r.answer (left (course_of r.answer) r.end))
   pub hands : (m : List ℕ)
-      → E.due x m ≡ (let d = due_at end m in record { given = d.given; id = d.frame.id; bytes = bytes_of d.frame.payload; state = left GoesOn d.end })
+      → E.due x m ≡ (let d = due_at end m in record { given = is_some d.frame; id = (given_frame d.frame).id; bytes = bytes_of (given_frame d.frame).payload; state = left GoesOn d.end })
   pub arrives : (bytes : List ℕ) → carried (sorted bytes).kind → (room : ℕ)
       → E.arrive x (E.receives x) bytes room
       ≡ (let r = arrived_at limit end (sorted bytes).kind bytes room in tells r.answer (left (course_of r.answer) r.end))
@@ -134,16 +139,18 @@ module _ (limit : ℕ) {carried : Telegram → Type 0} {Kept : Channel → Type 
 
   -- what is due
   due-hands : {r t : ℕ} {x : E.State} {l : Line} → Ties r t x l → (m : List ℕ) → Hands carried t (Ties r t) (E.due x m) (line_due l m)
-  unfolding due_at frame_on
+  unfolding due_at
   due-hands (open' x o k) m =
       let a = around x o in
       let kept = subst Kept a.channel k in
       rw (a.hands m, a.channel, due-goes-on a.end.channel m)
       (record {
-        given = refl;
-        id = λ e. rw (e, a.transmits);
-        bytes = λ e. rw e;
-        kind = λ e. rw e (keeps.given a.end.channel kept m e);
+        given = frame_on-some a.end.transmit (due a.end.channel m).payload;
+        id = λ e. frame_on-id a.end.transmit (due a.end.channel m).payload e ∙ sym a.transmits;
+        bytes = λ e. ap bytes_of (frame_on-payload a.end.transmit (due a.end.channel m).payload);
+        kind =
+            λ e. subst (λ (p : Payload). carried (sorted (bytes_of p)).kind) (sym (frame_on-payload a.end.transmit (due a.end.channel m).payload))
+            (keeps.given a.end.channel kept m (sym (frame_on-some a.end.transmit (due a.end.channel m).payload) ∙ e));
         tied = a.goes_on _ (keeps.hands a.end.channel kept m);
       })
   due-hands (closed f) m =

@@ -3,6 +3,8 @@ use Prim.Native.Nat.{ℕ}
 use mathlib.Core.Bool.{Bool, true, false, true≢false}
 use mathlib.Core.List.{List}
 use mathlib.Core.Path.{◌≡◌, refl, sym, ap, ◌∙◌}
+use Rattle.std.specs.Option.{is_some}
+use Rattle.channel.specs.Opened.{given_payload}
 use Rattle.telegram.specs.Outgoing.{bytes_of}
 use Rattle.telegram.specs.Kinds.{sorted}
 use Rattle.telegram.specs.declared.kinds.Telegram.{Telegram}
@@ -44,7 +46,7 @@ pub record Keeps (limit : ℕ) (carried : Telegram → Type 0) (Kept : Channel �
   pub takes : (c : Channel) → Kept c → (room : ℕ) → Kept (with_receiver c (took c.receiver room).receiver)
   pub times : (c : Channel) → Kept c → (n : ℕ) → Kept (elapsed c n).channel
   pub hands : (c : Channel) → Kept c → (m : List ℕ) → Kept (due c m).channel
-  pub given : (c : Channel) → Kept c → (m : List ℕ) → (due c m).given ≡ true → carried (sorted (bytes_of (due c m).payload)).kind
+  pub given : (c : Channel) → Kept c → (m : List ℕ) → is_some (due c m).payload ≡ true → carried (sorted (bytes_of (given_payload (due c m).payload))).kind
   pub arrives : (c : Channel) → Kept c → (t : Telegram) → carried t → (p : List ℕ) (room : ℕ) → Kept (arrived limit c t p room).channel
 
 -- no test is set or out, and no A1 due

@@ -1,5 +1,7 @@
 -- The connection record as an end of `delivery`: each call by the very definition of its contract.
 use Rattle.std.specs.Prelude.{ℕ, ◌≤◌, Bool, true, false, not, ◌&&◌, eqb}
+use Rattle.std.specs.Option.{is_some}
+use Rattle.open_end.specs.OpenEnd.{given_frame}
 use Rattle.telegram.specs.Outgoing.{bytes_of}
 use Rattle.open_end.specs.declared.answers.Said.{Said}
 use Rattle.connection.specs.declared.Connection.{Connection}
@@ -21,7 +23,7 @@ shows t = record { number = t.told.said.number; message = record { length = t.le
 
 -- the same of what is due: the frame's ID and bytes
 abbrev pub hands : Due Connection → Given Connection
-hands d = record { given = d.given; id = d.frame.id; bytes = bytes_of d.frame.payload; state = d.left }
+hands d = record { given = is_some d.frame; id = (given_frame d.frame).id; bytes = bytes_of (given_frame d.frame).payload; state = d.left }
 
 -- a record goes by a profile with tests; or by one without, and then none is agreed: its interval is 0
 abbrev pub goes_by : (tests : Bool) → Connection → Bool

@@ -1,5 +1,7 @@
 -- 01, "Opening": how a record comes to be fresh, by the very definitions of its calls. What the peer sends comes as bytes.
 use Rattle.std.specs.Prelude.{ℕ, Bool, true, false, List, [], ◌∷◌, ◌++◌, length, ◌≡◌, if◌then◌else◌}
+use Rattle.std.specs.declared.option.Option.{Option}
+use Rattle.std.specs.declared.option.Option.TheVariants.{None, Some}
 use Rattle.telegram.specs.Outgoing.{bytes_of}
 use Rattle.telegram.specs.declared.payload.Payload.{Payload}
 use Rattle.opening.specs.Opening.{reply_of}
@@ -16,7 +18,6 @@ use Rattle.settings.specs.declared.Settings.{Settings}
 use Rattle.open_end.specs.declared.answers.Answer.{Answer}
 use Rattle.open_end.specs.declared.Frame.{Frame}
 use Rattle.connection.specs.declared.Connection.{Connection}
-use Rattle.open_end.specs.declared.answers.Due.{Due}
 use Rattle.connection.specs.Record.{closed_record}
 use Rattle.connection.specs.Calls.{opening_as, arrived, due_of}
 use Rattle.delivery.specs.System.{Try, System}
@@ -30,8 +31,9 @@ pub record Exchange : Type 0 where
   pub connection : Connection
 
 -- the frame of a due call, if any
-abbrev pub handed_over : Due Connection → List Frame
-handed_over d = if d.given then d.frame ∷ [] else []
+abbrev pub handed_over : Option Frame → List Frame
+handed_over None = []
+handed_over (Some f) = f ∷ []
 
 -- the unit's D0 that names a transmit ID, in the profile's form
 abbrev pub positive_of : Profile → (receive transmit : ℕ) → Payload
@@ -47,7 +49,7 @@ exchange limit p s transmit fields room =
     let a1 = arrived limit a0.left s.receive (bytes_of (accept_of fields)) room in
     record {
       answers = o.told.answer ∷ c0.told.answer ∷ d0.told.answer ∷ a0.told.answer ∷ a1.told.answer ∷ [];
-      frames = handed_over c0 ++ handed_over a0;
+      frames = handed_over c0.frame ++ handed_over a0.frame;
       connection = a1.left;
     })
 

@@ -1,11 +1,12 @@
 -- The calls beside an arrival: each says and leaves what its table tells.
 use Prim.Native.Nat.{ℕ}
 use native.Mathlib.Omega.{arith}
-use mathlib.Core.Bool.{Bool, true, false, ◌||◌}
+use mathlib.Core.Bool.{true, false, ◌||◌}
 use mathlib.Core.List.{List}
 use mathlib.Core.Path.{◌≡◌, refl}
 use borrow.Author.Tests.{lt-ltb, le-ltb, not-true, not-false}
 use Rattle.laws.proofs.Cases.{by, by-not, by-lt, by_le, by-eq, Makes}
+use Rattle.std.specs.declared.option.Option.{Option}
 use Rattle.profile.specs.Opening.{request_for}
 use Rattle.profile.specs.declared.Profile.{Profile}
 use Rattle.settings.specs.Settings.{allowed_by}
@@ -70,8 +71,8 @@ module _ (c : Connection) (n : ℕ) where
 -- ---- what is due
 
 module _ (c : Connection) (m : List ℕ) where
-  abbrev hands-over : Due Connection → Said × (Bool × Frame × Connection)
-  hands-over d = (d.told.said, (d.given, d.frame, d.left))
+  abbrev hands-over : Due Connection → Said × (Option Frame × Connection)
+  hands-over d = (d.told.said, (d.frame, d.left))
 
   pub due-told : due_says c m ≡ told_by (due_table c m)
   unfolding due_of request_for closed_due request_due open_due due_at

@@ -2,6 +2,7 @@
 -- written from the record's fields, those of its profile too, numbers and bytes, apart from the definitions that the promises cite: of those only the calls are named here.
 -- What belongs to an open channel stands in crates/open_rows. proofs/Rows.antt proves that each call says and leaves what its table tells.
 use Rattle.std.specs.Prelude.{ℕ, ◌+◌, ◌-◌, ◌/◌, ◌%◌, Bool, true, false, not, ◌&&◌, ◌||◌, List, [], ◌∷◌, length, get_or, ltb, leb, eqb, if◌then◌else◌}
+use Rattle.std.specs.declared.option.Option.{Option}
 use Rattle.telegram.specs.declared.payload.Payload.{Payload}
 use Rattle.profile.specs.declared.Profile.{Profile}
 use Rattle.settings.specs.declared.Settings.{Settings}
@@ -167,7 +168,7 @@ abbrev pub request_out : Connection → Connection
 request_out c = on_attempt c (record { due = false; asked = true; wait = c.settings.t_e; repeats = c.attempt.repeats })
 
 -- "Sending order .. CA and test, break, Ack, then data, CS, DC. Ties (house): CA, test; DC, CS, data"; row 7, "lent message not of the accepted length", "only when the frame to hand over is data"
-abbrev pub due_table : Connection → (m : List ℕ) → Table (Bool × Frame × Connection)
+abbrev pub due_table : Connection → (m : List ℕ) → Table (Option Frame × Connection)
 due_table c m =
     (let ch = c.end.channel in
     let own = ch.parameters.own in
@@ -184,8 +185,8 @@ due_table c m =
     or_else always (plain 0) (hands_none c))
 
 -- what a due call says, hands over and leaves
-abbrev pub due_says : Connection → (m : List ℕ) → Said × (Bool × Frame × Connection)
-due_says c m = ((due_of c m).told.said, ((due_of c m).given, (due_of c m).frame, (due_of c m).left))
+abbrev pub due_says : Connection → (m : List ℕ) → Said × (Option Frame × Connection)
+due_says c m = ((due_of c m).told.said, ((due_of c m).frame, (due_of c m).left))
 
 -- ---- send, take and close
 

@@ -32,7 +32,7 @@ abbrev pub arrives : Arrived Connection → Reply Tester
 arrives a = record { carried = marked a.told.said a.padded; len = 0; next = record { connection = a.left } }
 
 abbrev pub hands : Due Connection → Reply Tester
-hands d = record { carried = handing d.told.said d.given d.frame; len = 0; next = record { connection = d.left } }
+hands d = record { carried = handing d.told.said d.frame; len = 0; next = record { connection = d.left } }
 
 abbrev pub takes : TakeStep Connection → Reply Tester
 takes t = record { carried = showing t.told.said t.flags; len = t.len; next = record { connection = t.left } }

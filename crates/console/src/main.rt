@@ -52,14 +52,9 @@ impl Record for Tester {
     }
 
     fn due(self, message: &[u8]) -> Reply<Tester> {
-        let Due {
-            told,
-            given,
-            frame,
-            left,
-        } = self.connection.due(message);
+        let Due { told, frame, left } = self.connection.due(message);
         Reply {
-            carried: Carried::handing(told.said, given, frame),
+            carried: Carried::handing(told.said, frame),
             len: 0,
             next: Tester { connection: left },
         }

@@ -221,7 +221,7 @@ with_frame d s =
     }
 
 abbrev pub handed_by : Direction → Handing → Sender → Direction
-handed_by d Frame s = with_frame d s
+handed_by d (Frame p) s = with_frame d s
 handed_by d NoFrame s = d
 handed_by d OtherLength s = d
 

@@ -5,6 +5,7 @@ use native.Mathlib.Nat.{mod-mod, mod-lt}
 use mathlib.Core.Bool.{Bool, true, false, false≢true}
 use mathlib.Core.List.{List}
 use mathlib.Core.Path.{◌≡◌, refl, sym, subst}
+use Rattle.std.specs.Option.{is_some}
 use Rattle.telegram.specs.Outgoing.{bytes_of}
 use Rattle.telegram.specs.Kinds.{sorted, ack_of}
 use Rattle.telegram.specs.declared.kinds.Sorted.{Sorted}
@@ -12,15 +13,14 @@ use Rattle.telegram.specs.declared.kinds.Telegram.{Telegram}
 use Rattle.telegram.specs.declared.kinds.Telegram.TheVariants.{Data, Ack, Test, Accept}
 use Rattle.telegram.specs.declared.payload.Payload.{Payload}
 use Rattle.telegram.proofs.RoundTrip.{accept-sorted, test-sorted, ack-sorted, frame-sorted}
-use Rattle.sender.specs.Sending.{handed, first_number}
+use Rattle.sender.specs.Sending.{handed, first_number, is_frame, handed_payload}
 use Rattle.sender.specs.declared.Terms.{Terms}
 use Rattle.sender.specs.declared.Sender.{Sender}
 use Rattle.sender.specs.declared.Handed.{Handed}
-use Rattle.sender.specs.declared.Handing.TheVariants.{Frame}
 use Rattle.sender.proofs.Frames.{handed-exactly, handed-frame}
 use Rattle.channel.specs.declared.Channel.{Channel}
 use Rattle.channel.specs.declared.Due.{Due}
-use Rattle.channel.specs.Opened.{test_due, due}
+use Rattle.channel.specs.Opened.{test_due, given_payload, due}
 use Rattle.channel.proofs.Handing.{DueOutcome, accept-goes, test-goes, ack-goes, frame-goes, none-goes, other_length, due-outcome}
 use Rattle.delivery.specs.Laws.{Carried}
 
@@ -38,16 +38,16 @@ module _ (P : Telegram → Type 0) (is-data : (asks last : Bool) (n : ℕ) → P
   sorted-as e k = subst (λ (x : Sorted). P x.kind) (sym e) k
 
   -- a frame of the sending half is sorted as data
-  frame_is : (t : Terms) (s : Sender) (m : List ℕ) → (handed t s m).note ≡ Frame → Is (handed t s m).payload
+  frame_is : (t : Terms) (s : Sender) (m : List ℕ) → is_frame (handed t s m).note ≡ true → Is (handed_payload (handed t s m).note)
   frame_is t s m e =
       let h = (handed-exactly t s m).0 e in
       rw (handed-frame t s m h.0 h.1) (sorted-as (frame-sorted m t.block (first_number s) s.next (rw h.1 h.0.more)) (is-data _ _ _))
 
   module _ (c : Channel) (is-accept : c.accept ≡ true → P (Accept c.parameters.own)) (is-test : test_due c ≡ true → P Test) where
-    pub due-is : (m : List ℕ) → (due c m).given ≡ true → P (sorted (bytes_of (due c m).payload)).kind
+    pub due-is : (m : List ℕ) → is_some (due c m).payload ≡ true → P (sorted (bytes_of (given_payload (due c m).payload))).kind
     due-is m = go (frame_is c.parameters.terms c.sender m) (due-outcome c m)
       where
-        go : {h : Handed} {x : Due} → (h.note ≡ Frame → Is h.payload) → DueOutcome c h x → x.given ≡ true → Is x.payload
+        go : {h : Handed} {x : Due} → (is_frame h.note ≡ true → Is (handed_payload h.note)) → DueOutcome c h x → is_some x.payload ≡ true → Is (given_payload x.payload)
         go f (accept-goes a) e = sorted-as (accept-sorted c.parameters.own) (is-accept a)
         go f (test-goes a t) e = sorted-as test-sorted (is-test t)
         go f (ack-goes a t k) e = sorted-as (ack-any c.receiver.ack.ready c.receiver.ack.number) (is-ack _ _)
@@ -56,5 +56,5 @@ module _ (P : Telegram → Type 0) (is-data : (asks last : Bool) (n : ℕ) → P
         go f (other_length t) e = absurd (false≢true e)
 
 -- so it is of a kind that the links carry
-pub due-carried : (c : Channel) (m : List ℕ) → (due c m).given ≡ true → Carried (sorted (bytes_of (due c m).payload)).kind
+pub due-carried : (c : Channel) (m : List ℕ) → is_some (due c m).payload ≡ true → Carried (sorted (bytes_of (given_payload (due c m).payload))).kind
 due-carried c = due-is Carried (λ _ _ _. tt) (λ _ _. tt) c (λ _. tt) (λ _. tt)

@@ -221,7 +221,7 @@ move-gave-up {limit} {room} {d} k b m = go m
     passed_by live n (sends-again r u) e = absurd (not_yet live (or-false _) e)
 
     handed_over : d.live ≡ true → (n : Handing) (s : Sender) → GaveUp (handed_by d n s)
-    handed_over live Frame s e = absurd (not_yet live refl e)
+    handed_over live (Frame p) s e = absurd (not_yet live refl e)
     handed_over live NoFrame s e = b e
     handed_over live OtherLength s e = b e
 
@@ -273,7 +273,7 @@ module _ (limit : ℕ) (P : List (List ℕ) → List Try → Type 0)
       offering m NotSent s w = w
 
       handing_over : (n : Handing) (s : Sender) → Q (handed_by d n s)
-      handing_over Frame s w = w
+      handing_over (Frame p) s w = w
       handing_over NoFrame s w = w
       handing_over OtherLength s w = w
 

@@ -5,6 +5,7 @@ use mathlib.Core.Bool.{Bool, true, false, true≢false, false≢true}
 use mathlib.Core.List.{List, [], ◌∷◌}
 use mathlib.Core.Path.{◌≡◌, refl, sym, ap, subst, ◌∙◌}
 use lib.ListN.{length}
+use Rattle.std.specs.Option.{is_some}
 use Rattle.telegram.specs.declared.payload.Payload.{Payload}
 use Rattle.sender.specs.Sending.{frame_due}
 use Rattle.sender.specs.declared.Sender.{Sender}
@@ -155,10 +156,10 @@ module _ (two : TwoEnds) (r t : ℕ) where
 -- ---- at rest
 
 -- nothing is handed over, so no frame of the message lent is due
-nothing-due : (c : Channel) (m : List ℕ) → (due_of c m).given ≡ false → frame_due c.sender ≡ true → length m ≡ c.sender.length → ⊥
+nothing-due : (c : Channel) (m : List ℕ) → is_some (due_of c m).payload ≡ false → frame_due c.sender ≡ true → length m ≡ c.sender.length → ⊥
 nothing-due c m g due' same = go (rw (handed-frame c.parameters.terms c.sender m (frame_due-shows c.sender due') same) at (due-outcome c m)) g
   where
-    go : {s : Sender} {p : Payload} {x : Due} → DueOutcome c (record { note = Frame; sender = s; payload = p }) x → x.given ≡ false → ⊥
+    go : {s : Sender} {p : Payload} {x : Due} → DueOutcome c (record { note = Frame p; sender = s }) x → is_some x.payload ≡ false → ⊥
     go (accept-goes a) = true≢false
     go (test-goes a t) = true≢false
     go (ack-goes a t k) = true≢false

@@ -9,6 +9,9 @@ use mathlib.Core.Path.{◌≡◌, refl, ap, ◌∙◌, sym}
 use lib.Dec.{eqb}
 use lib.ListN.{length, drop}
 use Rattle.laws.proofs.Branches.{on}
+use Rattle.std.specs.Option.{is_some}
+use Rattle.channel.specs.Opened.{given_payload}
+use Rattle.sender.specs.Sending.{is_frame, handed_payload}
 use Rattle.telegram.specs.Outgoing.{bytes_of}
 use Rattle.telegram.specs.Kinds.{sorted, ack_of, test_of, accept_of}
 use Rattle.telegram.specs.declared.kinds.Sorted.{Sorted}
@@ -180,7 +183,7 @@ module _ (limit : ℕ) (carried : Telegram → Type 0) (N F : End) (R : N.State 
 
   -- what a channel's due tells
   abbrev due-line : Due → Given Line
-  due-line d = record { given = d.given; id = 0; bytes = bytes_of d.payload; state = line_after d.channel d.answer }
+  due-line d = record { given = is_some d.payload; id = 0; bytes = bytes_of (given_payload d.payload); state = line_after d.channel d.answer }
 
   abbrev Gives : Due → Type 0
   Gives d = (r : Given N.State) → Hands carried transmit R r (due-line d) → Acted limit carried R receive transmit (line nc true) f due sys (with-given nc r)
@@ -214,15 +217,15 @@ module _ (limit : ℕ) (carried : Telegram → Type 0) (N F : End) (R : N.State 
       (given-of _ rest acknowledge e.tied (e.id e.given) (rw (e.bytes e.given) at (e.kind e.given))
       (rw kind no-data) (rw kind (on _ _ _ _ q refl)) acks (λ c. c) refl refl (λ _ z. z))
 
-  frame-given : {s : Sender} {p : Payload} → handed nc.parameters.terms nc.sender (lent h) ≡ record { note = Frame; sender = s; payload = p }
+  frame-given : {s : Sender} {p : Payload} → handed nc.parameters.terms nc.sender (lent h) ≡ record { note = Frame p; sender = s }
       → Gives (hand_over (with_sender nc s) p)
   frame-given {s} {p} w r e =
       let terms = nc.parameters.terms in
       let first = first_number nc.sender in
       let d = going (line nc true) h in
-      let out = (handed-exactly terms nc.sender (lent h)).0 (ap (λ (g : Handed). g.note) w) in
+      let out = (handed-exactly terms nc.sender (lent h)).0 (ap (λ (g : Handed). is_frame g.note) w) in
       let same : p ≡ frame_at (lent h) terms.block first nc.sender.next =
-      ap (λ (g : Handed). g.payload) (sym w ∙ handed-frame terms nc.sender (lent h) out.0 out.1) in
+      ap (λ (g : Handed). handed_payload g.note) (sym w ∙ handed-frame terms nc.sender (lent h) out.0 out.1) in
       let kind : (sorted (bytes_of p)).kind ≡ Data (frame_now d).asks (frame_now d).last (frame_now d).number =
       ap (λ (q : Payload). (sorted (bytes_of q)).kind) same
       ∙ ap (λ (x : Sorted). x.kind) (frame-sorted (lent h) terms.block first nc.sender.next (rw out.1 out.0.more)) in

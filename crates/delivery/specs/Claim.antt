@@ -1,5 +1,6 @@
 -- Demand 3, sentence by sentence: what is assumed of two ends, their links and a list of calls, and what then holds after the list.
 use Rattle.std.specs.Prelude.{ℕ, ◌+◌, ◌*◌, ◌≤◌, ◌<◌, Bool, true, false, ◌≡◌, ◌⊎◌, List, [], ◌∷◌, ◌++◌, map, length, get_or, take, eqb, if◌then◌else◌}
+use Rattle.std.specs.Option.{is_some}
 use Rattle.telegram.specs.Kinds.{sorted}
 use Rattle.telegram.specs.Cutting.{frames_of}
 use Rattle.sender.specs.Sending.{fresh as fresh_sender}
@@ -147,7 +148,7 @@ TakenFirst s (at far a) = NearTakenFirst (turned s) a
 
 -- nothing due, no wait, hold or T3 running
 pub record Resting (c : Channel) (m : List ℕ) : Type 0 where
-  pub nothing : (due_of c m).given ≡ false
+  pub nothing : is_some (due_of c m).payload ≡ false
   pub wait : c.sender.wait ≡ 0
   pub hold : c.sender.hold ≡ 0
   pub gap : c.sender.gap ≡ 0

@@ -1,6 +1,8 @@
 -- A bare channel as an end: what the other ends are held to (Laws.antt), and an end by itself.
 use Rattle.std.specs.Prelude.{ℕ, Bool, true, false, not, List, [], drop, if◌then◌else◌}
 use Rattle.std.specs.Result.{result_unwrap_or}
+use Rattle.std.specs.Option.{is_some}
+use Rattle.channel.specs.Opened.{given_payload}
 use Rattle.telegram.specs.Outgoing.{bytes_of}
 use Rattle.telegram.specs.Kinds.{sorted}
 use Rattle.telegram.specs.Cutting.{none}
@@ -57,7 +59,7 @@ line_take l room =
 abbrev pub line_due : Line → List ℕ → Given Line
 line_due l m =
     if l.live
-    then (let d = due_of l.channel m in record { given = d.given; id = 0; bytes = bytes_of d.payload; state = line_after d.channel d.answer })
+    then (let d = due_of l.channel m in record { given = is_some d.payload; id = 0; bytes = bytes_of (given_payload d.payload); state = line_after d.channel d.answer })
     else record { given = false; id = 0; bytes = []; state = l }
 
 -- a frame arrives: 4 if closed

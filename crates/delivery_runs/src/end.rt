@@ -420,9 +420,9 @@ impl End {
         let message: [u8; ROOM] = array::from_fn(|i| byte_at(start, i));
         let d = self.channel.due(reading::part(&message, 0, self.length));
         self.channel = d.channel;
-        if d.given {
-            self.link.push(d.payload);
-            self.tally.count_frame(d.payload.bytes[0]);
+        if let Some(payload) = d.payload {
+            self.link.push(payload);
+            self.tally.count_frame(payload.bytes[0]);
         }
     }
 

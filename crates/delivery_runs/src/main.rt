@@ -174,11 +174,11 @@ impl Bench {
         let d = self.ends.near.due(reading::part(&self.message, 0, len));
         self.ends.near = d.channel;
         self.tell(d.answer);
-        if d.given {
-            self.ends.forward = Some(d.payload);
+        if let Some(payload) = d.payload {
+            self.ends.forward = Some(payload);
             put_pairs(
                 &mut self.line,
-                reading::part(&d.payload.bytes, 0, d.payload.len),
+                reading::part(&payload.bytes, 0, payload.len),
             );
         }
     }

@@ -1,20 +1,19 @@
 -- Answers as lines: an answer's number and, behind it, what it carries, with one blank between.
 use Rattle.std.specs.Prelude.{ℕ, ◌%◌, Bool, false, List, [], ◌∷◌, ◌++◌, Option, Some, None, take, ◌==◌}
 use Rattle.text.specs.Written.{if_given, pair_of, pairs_of, id_of, flags_of, decimal_of}
-use Rattle.open_end.specs.OpenEnd.{no_frame}
 use Rattle.open_end.specs.declared.Frame.{Frame}
 use Rattle.open_end.specs.declared.answers.Said.{Said}
 use Rattle.dialogue.specs.declared.answers.Carried.{Carried}
 
--- nothing but, it may be, the mark of a padded telegram; a frame, if one is given; a message
+-- nothing but, it may be, the mark of a padded telegram; a frame, if there is one; a message
 abbrev pub marked : Said → Bool → Carried
-marked said padded = record { said = said; padded = padded; given = false; frame = no_frame; flags = 0 }
+marked said padded = record { said = said; padded = padded; frame = None; flags = 0 }
 
-abbrev pub handing : Said → Bool → Frame → Carried
-handing said given frame = record { said = said; padded = false; given = given; frame = frame; flags = 0 }
+abbrev pub handing : Said → Option Frame → Carried
+handing said frame = record { said = said; padded = false; frame = frame; flags = 0 }
 
 abbrev pub showing : Said → ℕ → Carried
-showing said flags = record { said = said; padded = false; given = false; frame = no_frame; flags = flags }
+showing said flags = record { said = said; padded = false; frame = None; flags = flags }
 
 -- " done" and " padded"
 abbrev pub done_word : List ℕ
@@ -31,9 +30,14 @@ said_of s = decimal_of s.number ++ if_given (s.number == 11) (pairs_of (s.opcode
 unfoldable pub frame_text : Frame → List ℕ
 frame_text f = 32 ∷ id_of f.id ++ pairs_of (take f.payload.len f.payload.bytes)
 
+-- a frame, if there is one
+abbrev pub given_text : Option Frame → List ℕ
+given_text None = []
+given_text (Some f) = frame_text f
+
 -- a message's flags, a frame, and a message's bytes
 unfoldable pub carried_of : Carried → List ℕ → List ℕ
-carried_of c message = flags_of (c.flags % 16) ++ if_given c.given (frame_text c.frame) ++ pairs_of message
+carried_of c message = flags_of (c.flags % 16) ++ given_text c.frame ++ pairs_of message
 
 -- an answer without the line's end, with a message's bytes
 unfoldable pub told_of : Carried → List ℕ → List ℕ

@@ -1,20 +1,19 @@
 // Answers as lines.
 ghost use Rattle.std.specs.Prelude.{◌≡◌};
 ghost use Rattle.text.specs.Written.{Writes, if_given, pairs_of};
-ghost use Rattle.dialogue.specs.Answers.{marked, handing, showing, said_of, frame_text, carried_of, told_of, answer_of, place_text, answer_at, each_of, owner_of, error_of, contents_of};
+ghost use Rattle.dialogue.specs.Answers.{marked, handing, showing, said_of, frame_text, given_text, carried_of, told_of, answer_of, place_text, answer_at, each_of, owner_of, error_of, contents_of};
 
 use open_end::answers::Said;
-use open_end::{Frame, no_frame, shown};
+use open_end::{Frame, shown};
 use text::writing;
 
-// What an answer says, and what it carries: the mark of a padded telegram; a frame, if one is given; a message's flags, its
+// What an answer says, and what it carries: the mark of a padded telegram; a frame, if there is one; a message's flags, its
 // bytes being lent.
 #[derive(Clone, Copy)]
 pub struct Carried {
     pub said: Said,
     pub padded: bool,
-    pub given: bool,
-    pub frame: Frame,
+    pub frame: Option<Frame>,
     pub flags: u16,
 }
 
@@ -26,20 +25,18 @@ impl Carried {
         Carried {
             said,
             padded,
-            given: false,
-            frame: no_frame(),
+            frame: None,
             flags: 0,
         }
     }
 
-    // A frame, if one is given.
-    pub fn handing(said: Said, given: bool, frame: Frame) -> Carried
-        ensures { result ≡ handing said given frame }
+    // A frame, if there is one.
+    pub fn handing(said: Said, frame: Option<Frame>) -> Carried
+        ensures { result ≡ handing said frame }
     {
         Carried {
             said,
             padded: false,
-            given,
             frame,
             flags: 0,
         }
@@ -52,8 +49,7 @@ impl Carried {
         Carried {
             said,
             padded: false,
-            given: false,
-            frame: no_frame(),
+            frame: None,
             flags,
         }
     }
@@ -106,9 +102,8 @@ fn number(text: &mut [u8], at: usize, said: Said) -> usize
 fn with_carried(text: &mut [u8], at: usize, carried: Carried, message: &[u8]) -> usize
     ensures { Writes text.old at (carried_of carried message.now) text.new result }
 {
-    let frame = carried.frame;
     let at = writing::flags(text, at, (carried.flags % 16) as u8);
-    let at = frame_if(text, at, carried.given, frame);
+    let at = frame_if(text, at, carried.frame);
     writing::pairs(text, at, message)
 }
 
@@ -121,13 +116,13 @@ fn pairs_if(text: &mut [u8], at: usize, given: bool, s: &[u8]) -> usize
     at
 }
 
-fn frame_if(text: &mut [u8], at: usize, given: bool, frame: Frame) -> usize
-    ensures { Writes text.old at (if_given given (frame_text frame)) text.new result }
+fn frame_if(text: &mut [u8], at: usize, frame: Option<Frame>) -> usize
+    ensures { Writes text.old at (given_text frame) text.new result }
 {
-    if given {
-        return put_frame(text, at, frame);
+    match frame {
+        Some(frame) => put_frame(text, at, frame),
+        None => at,
     }
-    at
 }
 
 // A frame as its ID and bytes, a blank before each.

@@ -160,13 +160,13 @@ impl Tally {
         }
     }
 
-    // A unit's frame of so many bytes came at a step, and one of ours went, if one is given.
-    pub(crate) fn with_turn(self, step: usize, len: usize, given: bool, frame: Frame) -> Tally {
+    // A unit's frame of so many bytes came at a step, and one of ours went, if there is one.
+    pub(crate) fn with_turn(self, step: usize, len: usize, frame: Option<Frame>) -> Tally {
         let tally = self.with_frame(len);
-        if !given {
-            return tally;
+        match frame {
+            Some(frame) => tally.with_handed(step, frame),
+            None => tally,
         }
-        tally.with_handed(step, frame)
     }
 
     fn with_frame(mut self, len: usize) -> Tally {

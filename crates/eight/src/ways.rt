@@ -82,7 +82,7 @@ fn alone(begun: One, unit: usize, steps: Range<usize>, frames: &[u8], buffer: &m
         let bytes = telegram(frames, unit, step);
         let d = turn(connection, id_of(unit, step), bytes, buffer);
         connection = d.left;
-        tally = tally.with_turn(step, bytes.len(), d.given, d.frame);
+        tally = tally.with_turn(step, bytes.len(), d.frame);
     }
     One { connection, tally }
 }
@@ -171,7 +171,7 @@ impl Driven for InPlace {
             };
             let d = turn(table.places[place], id, bytes, buffer);
             table.places[place] = d.left;
-            tally = tally.with_turn(step, bytes.len(), d.given, d.frame);
+            tally = tally.with_turn(step, bytes.len(), d.frame);
         }
         All { table, tally }
     }
@@ -210,7 +210,7 @@ impl Driven for ByCalls {
             let t = r.left;
             let d = t.due(place, b"");
             table = d.left;
-            tally = tally.with_turn(step, bytes.len(), d.given, d.frame);
+            tally = tally.with_turn(step, bytes.len(), d.frame);
         }
         All { table, tally }
     }

@@ -2,6 +2,8 @@
 -- `connection` cite, and what 01 prints. `exchange` of proofs/Exchange.antt proves that the one comes to the other.
 use Rattle.std.specs.Prelude.{ℕ, length, take as first_of, replicate, eqb, if◌then◌else◌}
 use mathlib.Core.List.{List, [], ◌∷◌, ◌++◌, map, flat_map}
+use Rattle.std.specs.declared.option.Option.{Option}
+use Rattle.std.specs.declared.option.Option.TheVariants.{None, Some}
 use Rattle.telegram.specs.Time.{tenths_of}
 use Rattle.telegram.specs.Outgoing.{bytes_of}
 use Rattle.telegram.specs.Cutting.{longest}
@@ -12,6 +14,7 @@ use Rattle.open_end.specs.declared.answers.Answer.TheVariants.{Channel}
 use Rattle.open_end.specs.declared.answers.Said.{Said}
 use Rattle.open_end.specs.declared.answers.Told.{Told}
 use Rattle.open_end.specs.Answers.{said}
+use Rattle.open_end.specs.declared.Frame.{Frame}
 use Rattle.connection.specs.declared.Connection.{Connection}
 use Rattle.open_end.specs.declared.answers.Answered.{Answered}
 use Rattle.open_end.specs.declared.answers.Due.{Due}
@@ -46,9 +49,14 @@ after t line c b = record { says = t.said; line = line; connection = c; buffer =
 abbrev pub silent : Answered Connection → (b : List ℕ) → After
 silent r b = after r.told [] r.left b
 
--- a frame handed over is put out as its ID, then its bytes
+-- a frame is put out as its ID, then its bytes
+abbrev pub frame_line : Option Frame → List (List ℕ)
+frame_line None = []
+frame_line (Some f) = (f.id ∷ bytes_of f.payload) ∷ []
+
+-- what is due
 abbrev pub handed : Due Connection → (b : List ℕ) → After
-handed d b = after d.told (if d.given then (d.frame.id ∷ bytes_of d.frame.payload) ∷ [] else []) d.left b
+handed d b = after d.told (frame_line d.frame) d.left b
 
 -- a message taken is put out as its bytes, the first part of the lent buffer
 abbrev pub taken : TakeStep Connection → (b : List ℕ) → After

@@ -210,10 +210,9 @@ fn run(start: Ends, message: &[u8], buffer: &mut [u8]) -> Ends {
         if next.phase != OPEN {
             return ends;
         }
-        if !d.given {
+        let Some(frame) = d.frame else {
             return ends;
-        }
-        let frame = d.frame;
+        };
         let payload = frame.payload;
         let bytes = payload.bytes;
         let c = ends.to;

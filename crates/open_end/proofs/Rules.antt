@@ -1,12 +1,16 @@
 -- The rules of an open end in other words: IDs, numbers, bytes and whole records, none through the definitions that they speak of.
 use Prim.Native.Nat.{ℕ, ◌<◌, ◌≤◌}
 use native.Mathlib.Omega.{arith}
-use mathlib.Core.Bool.{true, false}
-use mathlib.Core.List.{List, [], ◌∷◌}
+use mathlib.Core.Bool.{true, false, false≢true}
+use mathlib.Core.List.{List, ◌∷◌}
 use mathlib.Core.Path.{◌≡◌, refl}
 use lib.ListN.{length}
 use borrow.Author.Tests.{lt-ltb, le-ltb}
+use Rattle.std.specs.Option.{is_some}
+use Rattle.std.specs.declared.option.Option.{Option}
+use Rattle.std.specs.declared.option.Option.TheVariants.{None, Some}
 use Rattle.telegram.specs.declared.kinds.Telegram.{Telegram}
+use Rattle.telegram.specs.declared.payload.Payload.{Payload}
 use Rattle.receiver.specs.Receiving.{received, buffered, took}
 use Rattle.receiver.specs.declared.Cause.{Cause}
 use Rattle.receiver.specs.declared.Receiver.{Receiver}
@@ -14,26 +18,21 @@ use Rattle.channel.specs.declared.Parameters.{Parameters}
 use Rattle.channel.specs.declared.Channel.{Channel}
 use Rattle.channel.specs.declared.Answer.{Answer as ChannelAnswer}
 use Rattle.channel.specs.declared.Answer.TheVariants.{Good, Done, Disconnected, Malformed, BlockSize, NotDue, Busy, BadLength, ShortBuffer, OtherLength, UsedUp, Broken, NoChange}
-use Rattle.channel.specs.Opened.{elapsed, due, sent}
+use Rattle.channel.specs.Opened.{given_payload, elapsed, due, sent}
 use Rattle.arrival.specs.Arrived.{arrived}
 use Rattle.open_end.specs.declared.answers.Answer.{Answer}
 use Rattle.open_end.specs.declared.answers.Answer.TheVariants.{Channel as ByChannel, OtherId, OutOfRange, Refused, Ended, Full}
 use Rattle.open_end.specs.declared.answers.Told.{Told}
-use Rattle.open_end.specs.declared.Frame.{Frame}
 use Rattle.open_end.specs.declared.OpenEnd.{OpenEnd}
 use Rattle.open_end.specs.declared.Course.TheVariants.{GoesOn, GivenUp, Leaves}
 use Rattle.open_end.specs.Answers.{said, told}
-use Rattle.open_end.specs.OpenEnd.{unopened, fresh_end, course_of, arrived_at, buffered_at, elapsed_at, frame_on, due_at, sent_at, taken_at}
+use Rattle.open_end.specs.OpenEnd.{given_frame, unopened, fresh_end, course_of, arrived_at, buffered_at, elapsed_at, frame_on, due_at, sent_at, taken_at}
 
 -- ---- literals
 
 -- an answer of an open channel: its number, and that no message in sending is done
 abbrev pub plainly : ChannelAnswer → ℕ → Told
 plainly a n = record { answer = ByChannel a; said = record { number = n; done = false; opcode = 0 } }
-
--- no frame: ID 0 and no bytes
-abbrev pub no_frame : Frame
-no_frame = record { id = 0; payload = record { len = 0; bytes = 0 ∷ 0 ∷ 0 ∷ 0 ∷ 0 ∷ 0 ∷ 0 ∷ 0 ∷ [] } }
 
 -- ---- the numbers
 
@@ -187,6 +186,24 @@ module _ (limit : ℕ) (e : OpenEnd) (t : Telegram) (b : ℕ) (p : List ℕ) whe
   unfolding buffered_at
   buffered_at-is buffer = refl
 
+-- a frame goes out exactly where a telegram is given
+pub frame_on-some : (id : ℕ) (p : Option Payload) → is_some (frame_on id p) ≡ is_some p
+unfolding frame_on
+frame_on-some id None = refl
+frame_on-some id (Some p) = refl
+
+-- on that ID
+pub frame_on-id : (id : ℕ) (p : Option Payload) → is_some (frame_on id p) ≡ true → (given_frame (frame_on id p)).id ≡ id
+unfolding frame_on
+frame_on-id id None e = absurd (false≢true e)
+frame_on-id id (Some p) e = refl
+
+-- with its bytes, and none where none is given
+pub frame_on-payload : (id : ℕ) (p : Option Payload) → (given_frame (frame_on id p)).payload ≡ given_payload p
+unfolding frame_on
+frame_on-payload id None = refl
+frame_on-payload id (Some p) = refl
+
 module _ (e : OpenEnd) where
   -- time runs for the channel, all of it; the IDs stay
   pub elapsed_at-is : (n : ℕ) → (let r = elapsed e.channel n in
@@ -201,24 +218,22 @@ module _ (e : OpenEnd) where
   sent_at-is limit n = refl
 
   -- a telegram that the channel hands over goes out on the transmit ID
-  pub due_at-given : (m : List ℕ) → (due e.channel m).given ≡ true → (let d = due e.channel m in
+  pub due_at-given : (m : List ℕ) (p : Payload) → (due e.channel m).payload ≡ Some p → (let d = due e.channel m in
       due_at e m
       ≡ record {
         answer = d.answer;
-        given = true;
-        frame = record { id = e.transmit; payload = d.payload };
+        frame = Some (record { id = e.transmit; payload = p });
         end = record { transmit = e.transmit; receive = e.receive; channel = d.channel };
       })
   unfolding due_at frame_on
-  due_at-given m g = rw g
+  due_at-given m p g = rw g
 
-  -- with none there is no frame: ID 0 and no bytes
-  pub due_at-none : (m : List ℕ) → (due e.channel m).given ≡ false → (let d = due e.channel m in
+  -- with none there is no frame
+  pub due_at-none : (m : List ℕ) → (due e.channel m).payload ≡ None → (let d = due e.channel m in
       due_at e m
       ≡ record {
         answer = d.answer;
-        given = false;
-        frame = record { id = 0; payload = record { len = 0; bytes = 0 ∷ 0 ∷ 0 ∷ 0 ∷ 0 ∷ 0 ∷ 0 ∷ 0 ∷ [] } };
+        frame = None;
         end = record { transmit = e.transmit; receive = e.receive; channel = d.channel };
       })
   unfolding due_at frame_on

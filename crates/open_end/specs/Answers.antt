@@ -1,5 +1,5 @@
 -- 01, "Numbers we answer with", 02, 5, for its row 8, and 02, 7, for 13: what a call of a record is answered with, at either end.
-use Rattle.std.specs.Prelude.{ℕ, Bool, true, false, List, take}
+use Rattle.std.specs.Prelude.{ℕ, Bool, false, List, Some, None, take}
 use Rattle.std.specs.Borrow.{Bor}
 use Rattle.telegram.specs.declared.cutting.Message.{Message}
 use Rattle.channel.specs.declared.Answer.{Answer as ChannelAnswer}
@@ -15,7 +15,6 @@ use Rattle.open_end.specs.declared.answers.TakeStep.{TakeStep}
 use Rattle.open_end.specs.declared.answers.Taken.{Taken}
 use Rattle.open_end.specs.declared.answers.Told.{Told}
 use Rattle.open_end.specs.declared.Frame.{Frame}
-use Rattle.open_end.specs.OpenEnd.{no_frame}
 
 -- an answer that carries its number alone
 abbrev pub plain : ℕ → Said
@@ -44,11 +43,11 @@ marked p r = record { told = r.told; padded = p; left = r.left }
 
 -- 0 with a frame handed over
 abbrev pub hand_over : {R : Type 0} → Frame → R → Due R
-hand_over f c = record { told = told (Channel Good); given = true; frame = f; left = c }
+hand_over f c = record { told = told (Channel Good); frame = Some f; left = c }
 
 -- 0 with no frame
 abbrev pub hand_nothing : {R : Type 0} → R → Due R
-hand_nothing c = record { told = told (Channel Good); given = false; frame = no_frame; left = c }
+hand_nothing c = record { told = told (Channel Good); frame = None; left = c }
 
 -- an answer with the length and the flags of what a take shows
 abbrev pub shows : {R : Type 0} → ChannelAnswer → Message → R → TakeStep R

@@ -1,5 +1,6 @@
 -- 01, "Telegrams on an open connection": what an end does once it is open, by its telegrams and on its two CAN IDs.
-use Rattle.std.specs.Prelude.{ℕ, Bool, List, [], drop, eqb, if◌then◌else◌}
+use Rattle.std.specs.Prelude.{ℕ, List, [], Option, None, Some, drop, eqb, if◌then◌else◌}
+use Rattle.std.specs.Option.{unwrap_or}
 use Rattle.std.specs.Result.{result_unwrap_or}
 use Rattle.telegram.specs.Outgoing.{payload_of}
 use Rattle.telegram.specs.Cutting.{none}
@@ -21,9 +22,9 @@ use Rattle.open_end.specs.declared.Answered.{Answered}
 use Rattle.open_end.specs.declared.Due.{Due}
 use Rattle.open_end.specs.declared.TakeStep.{TakeStep}
 
--- no frame
-abbrev pub no_frame : Frame
-no_frame = record { id = 0; payload = payload_of [] }
+-- the ID and the bytes of a frame that is given; where none is, ID 0 and no bytes
+abbrev pub given_frame : Option Frame → Frame
+given_frame f = unwrap_or f (record { id = 0; payload = payload_of [] })
 
 -- the channel of an end that is not open
 abbrev pub no_channel : Channel
@@ -65,14 +66,15 @@ unfoldable pub elapsed_at : OpenEnd → ℕ → Answered
 elapsed_at e n = (let r = elapsed e.channel n in record { answer = r.answer; end = with_channel e r.channel })
 
 -- a telegram that is given, as a frame on an ID
-unfoldable pub frame_on : (id : ℕ) → (given : Bool) → Payload → Frame
-frame_on id given p = if given then record { id = id; payload = p } else no_frame
+unfoldable pub frame_on : (id : ℕ) → Option Payload → Option Frame
+frame_on id None = None
+frame_on id (Some p) = Some (record { id = id; payload = p })
 
 -- what the channel has due goes out on the transmit ID
 unfoldable pub due_at : OpenEnd → List ℕ → Due
 due_at e m =
     (let d = due e.channel m in
-    record { answer = d.answer; given = d.given; frame = frame_on e.transmit d.given d.payload; end = with_channel e d.channel })
+    record { answer = d.answer; frame = frame_on e.transmit d.payload; end = with_channel e d.channel })
 
 -- a message of n bytes to send
 unfoldable pub sent_at : (limit : ℕ) → OpenEnd → ℕ → Answered

@@ -2,7 +2,7 @@
 ghost use Rattle.std.specs.Prelude.{◌≡◌};
 ghost use Rattle.open_end.specs.Answers.{plain, said, told, gives, marked, hand_over, hand_nothing, shows};
 
-use crate::{Frame, no_frame};
+use crate::Frame;
 use telegram::cutting::Message;
 
 // What a call is answered with.
@@ -99,12 +99,11 @@ pub struct Arrived<R> {
     pub left: R,
 }
 
-// A frame to hand over, if one is given; else ID 0 and no bytes.
+// A frame to hand over, if there is one.
 #[derive(Clone, Copy)]
 pub struct Due<R> {
     pub told: Told,
-    pub given: bool,
-    pub frame: Frame,
+    pub frame: Option<Frame>,
     pub left: R,
 }
 
@@ -157,8 +156,7 @@ pub trait Record: Sized {
     {
         Due {
             told: tell(Answer::Channel(channel::Answer::Good)),
-            given: true,
-            frame,
+            frame: Some(frame),
             left: self,
         }
     }
@@ -169,8 +167,7 @@ pub trait Record: Sized {
     {
         Due {
             told: tell(Answer::Channel(channel::Answer::Good)),
-            given: false,
-            frame: no_frame(),
+            frame: None,
             left: self,
         }
     }

@@ -6,7 +6,7 @@
 
 ghost use Rattle.std.specs.Prelude.{◌≡◌, length, take, drop};
 ghost use Rattle.telegram.specs.Cutting.{longest};
-ghost use Rattle.open_end.specs.OpenEnd.{no_frame, no_channel, unopened, fresh_end, course_of, arrived_at, buffered_at, elapsed_at, frame_on, due_at, sent_at, take_answer, taken_at};
+ghost use Rattle.open_end.specs.OpenEnd.{no_channel, unopened, fresh_end, course_of, arrived_at, buffered_at, elapsed_at, frame_on, due_at, sent_at, take_answer, taken_at};
 
 use channel::{Channel, Parameters};
 use receiver::{TakeError, Took};
@@ -49,12 +49,11 @@ pub struct Answered {
     pub end: OpenEnd,
 }
 
-// A frame to hand over, if one is given; else ID 0 and no bytes.
+// A frame to hand over, if there is one.
 #[derive(Clone, Copy)]
 pub struct Due {
     pub answer: channel::Answer,
-    pub given: bool,
-    pub frame: Frame,
+    pub frame: Option<Frame>,
     pub end: OpenEnd,
 }
 
@@ -86,26 +85,11 @@ pub fn shown<'a>(buffer: &'a [u8], len: usize) -> &'a [u8]
     &buffer[..len]
 }
 
-pub fn no_frame() -> Frame
-    ensures { result ≡ no_frame }
+// A telegram, if there is one, as a frame on an ID.
+fn frame_on(id: u16, payload: Option<Payload>) -> Option<Frame>
+    ensures { result ≡ frame_on id payload }
 {
-    Frame {
-        id: 0,
-        payload: Payload {
-            len: 0,
-            bytes: [0, 0, 0, 0, 0, 0, 0, 0],
-        },
-    }
-}
-
-// A telegram that is given, as a frame on an ID.
-fn frame_on(id: u16, given: bool, payload: Payload) -> Frame
-    ensures { result ≡ frame_on id given payload }
-{
-    if given {
-        return Frame { id, payload };
-    }
-    no_frame()
+    payload.map(|payload| Frame { id, payload })
 }
 
 fn take_answer(taking: Result<Message, TakeError>) -> channel::Answer
@@ -208,17 +192,15 @@ impl OpenEnd {
     pub fn due(mut self, message: &[u8]) -> Due
         ensures { result ≡ due_at self message.now }
     {
-        let ch = self.channel;
-        let d = ch.due(message);
-        let given = d.given;
-        let answer = d.answer;
-        let next = d.channel;
-        self.channel = next;
-        let payload = d.payload;
+        let channel::Due {
+            answer,
+            payload,
+            channel,
+        } = self.channel.due(message);
+        self.channel = channel;
         Due {
             answer,
-            given,
-            frame: frame_on(self.transmit, given, payload),
+            frame: frame_on(self.transmit, payload),
             end: self,
         }
     }

@@ -1,7 +1,7 @@
 -- The calls of an open end beside an arrival: each says and leaves what its rows in specs/Open.antt tell.
 use Prim.Native.Nat.{ℕ, ◌+◌, ◌≤◌, ◌<◌}
 use native.Mathlib.Omega.{arith}
-use mathlib.Core.Bool.{Bool, false, ◌&&◌, true≢false}
+use mathlib.Core.Bool.{false, ◌&&◌, true≢false}
 use mathlib.Core.List.{List}
 use mathlib.Core.Path.{◌≡◌, refl, sym, ◌∙◌}
 use lib.Dec.{ltb}
@@ -9,6 +9,7 @@ use borrow.Author.Tests.{eq-eqb, ne_eqb, lt-ltb, le-ltb}
 use Rattle.laws.proofs.Branches.{on, off}
 use Rattle.std.specs.Result.{result_unwrap_or}
 use Rattle.telegram.specs.Cutting.{none as no_message}
+use Rattle.std.specs.declared.option.Option.{Option}
 use Rattle.sender.specs.declared.Terms.{Terms}
 use Rattle.sender.specs.declared.Sender.{Sender}
 use Rattle.sender.specs.declared.Offered.{Offered}
@@ -81,8 +82,8 @@ open-time w e n = (let ch = e.channel in elapsed-told w ch n (sends _ _ n (time_
 
 module _ {A : Type 0} (w : Ways A) (transmit : ℕ) (ch : Channel) (m : List ℕ) where
   -- by what the channel hands over
-  abbrev hands_on : ChannelDue → Said × (Bool × Frame × A)
-  hands_on d = (said (ByChannel d.answer), (d.given, frame_on transmit d.given d.payload, w.goes_on d.channel))
+  abbrev hands_on : ChannelDue → Said × (Option Frame × A)
+  hands_on d = (said (ByChannel d.answer), (frame_on transmit d.payload, w.goes_on d.channel))
 
   -- where it is the data's turn
   data-given : DataTurn ch → {h : Handed} → FrameCase ch.parameters.terms ch.sender m h → hands_on (hand_by ch h h.note) ≡ told_by (due_rows w transmit ch m)

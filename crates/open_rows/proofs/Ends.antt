@@ -3,6 +3,7 @@ use Prim.Native.Nat.{ℕ}
 use mathlib.Core.Bool.{Bool}
 use mathlib.Core.List.{List}
 use lib.ListN.{length}
+use Rattle.std.specs.declared.option.Option.{Option}
 use Rattle.telegram.specs.Kinds.{sorted}
 use Rattle.channel.specs.declared.Channel.{Channel}
 use Rattle.open_end.specs.declared.answers.Answer.TheVariants.{Channel as ByChannel}
@@ -34,8 +35,8 @@ module _ {A : Type 0} (w : Ways A) where
   elapses_at e n = (let r = elapsed_at e n in (said (ByChannel r.answer), settled_by (course_of r.answer) r.end.channel))
 
   -- what is due
-  abbrev pub hands_at : OpenEnd → (m : List ℕ) → Said × (Bool × Frame × A)
-  hands_at e m = (let d = due_at e m in (said (ByChannel d.answer), (d.given, d.frame, w.goes_on d.end.channel)))
+  abbrev pub hands_at : OpenEnd → (m : List ℕ) → Said × (Option Frame × A)
+  hands_at e m = (let d = due_at e m in (said (ByChannel d.answer), (d.frame, w.goes_on d.end.channel)))
 
   -- send
   abbrev pub sends_at : (limit : ℕ) → OpenEnd → (n : ℕ) → Said × A

@@ -6,6 +6,7 @@ use mathlib.Core.Bool.{Bool, false, not, ◌&&◌, ◌||◌}
 use mathlib.Core.List.{List}
 use lib.ListN.{length}
 use lib.Dec.{ltb, eqb}
+use Rattle.std.specs.declared.option.Option.{Option}
 use Rattle.channel.specs.declared.Channel.{Channel}
 use Rattle.open_end.specs.declared.Frame.{Frame}
 use Rattle.open_rows.specs.Tables.{plain, row, Table, always, ◌or_else◌}
@@ -41,7 +42,7 @@ module _ {A : Type 0} (w : Ways A) where
       or_else always (plain 0) (w.goes_on (channel_later ch n))
 
   -- "Sending order .. CA and test, break, Ack, then data": what is due goes out on the transmit ID; row 7, "only when the frame to hand over is data"
-  abbrev pub due_rows : (transmit : ℕ) → Channel → (m : List ℕ) → Table (Bool × Frame × A)
+  abbrev pub due_rows : (transmit : ℕ) → Channel → (m : List ℕ) → Table (Option Frame × A)
   due_rows transmit ch m =
       (let own = ch.parameters.own in
       row ch.accept 0 (hands transmit (six_bytes 0xA1 own.block own.t1 own.t3) (w.goes_on (accept_out ch)))

@@ -2,6 +2,8 @@
 -- open channel ask and leave. All is written from the channel's fields, numbers and bytes, apart from the definitions that the
 -- promises cite. The tables of a connection and of a control unit put them in order.
 use Rattle.std.specs.Prelude.{ℕ, ◌+◌, ◌-◌, ◌*◌, ◌/◌, ◌%◌, Bool, true, false, not, ◌&&◌, ◌||◌, List, [], ◌∷◌, ◌++◌, length, take, drop, get_or, replicate, ltb, leb, eqb, if◌then◌else◌}
+use Rattle.std.specs.declared.option.Option.{Option}
+use Rattle.std.specs.declared.option.Option.TheVariants.{None, Some}
 use Rattle.telegram.specs.declared.cutting.Message.{Message}
 use Rattle.telegram.specs.declared.payload.Payload.{Payload}
 use Rattle.profile.specs.declared.Range.{Range}
@@ -342,12 +344,12 @@ channel_later ch n = channel_of ch (sending_later ch.sender n) ch.receiver (test
 -- ---- what is due
 
 -- a frame handed over, and the record then
-abbrev pub hands : {A : Type 0} → (id : ℕ) → Payload → A → Bool × Frame × A
-hands id p x = (true, record { id = id; payload = p }, x)
+abbrev pub hands : {A : Type 0} → (id : ℕ) → Payload → A → Option Frame × A
+hands id p x = (Some (record { id = id; payload = p }), x)
 
 -- no frame, and the record as it was
-abbrev pub hands_none : {A : Type 0} → A → Bool × Frame × A
-hands_none x = (false, record { id = 0; payload = record { len = 0; bytes = 0 ∷ 0 ∷ 0 ∷ 0 ∷ 0 ∷ 0 ∷ 0 ∷ 0 ∷ [] } }, x)
+abbrev pub hands_none : {A : Type 0} → A → Option Frame × A
+hands_none x = (None, x)
 
 -- one byte: an Ack, A3 or A8
 abbrev pub single : ℕ → Payload

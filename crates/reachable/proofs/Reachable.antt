@@ -4,10 +4,13 @@ use native.Mathlib.Omega.{arith}
 use mathlib.Core.Bool.{Bool, true, false, true≢false, false≢true}
 use mathlib.Core.List.{List, [], ◌∷◌}
 use mathlib.Core.Logic.{◌≢◌, ◌⊎◌, inl, inr}
-use mathlib.Core.Path.{◌≡◌, refl, sym, ap, ◌∙◌}
+use mathlib.Core.Path.{◌≡◌, refl, subst, sym, ap, ◌∙◌}
 use lib.ListN.{length, get_or}
 use borrow.Author.Tests.{le-ltb}
 use Rattle.laws.proofs.Cases.{by, either}
+use Rattle.std.specs.Option.{is_some}
+use Rattle.channel.specs.Opened.{given_payload}
+use Rattle.open_end.proofs.Rules.{frame_on-some, frame_on-id, frame_on-payload}
 use Rattle.telegram.specs.Outgoing.{bytes_of}
 use Rattle.telegram.specs.Kinds.{ack_of}
 use Rattle.telegram.specs.Cutting.{header_of, asks_at, last_at, frame_at}
@@ -28,7 +31,7 @@ use Rattle.channel.specs.declared.Tests.{Tests}
 use Rattle.channel.specs.declared.Due.{Due as ChannelDue}
 use Rattle.channel.specs.Opened.{test_due, due}
 use Rattle.channel.proofs.Handing.{DataTurn, DueOutcome, accept-goes, test-goes, ack-goes, frame-goes, none-goes, other_length, due-outcome, due-sized}
-use Rattle.open_end.specs.OpenEnd.{no_channel, frame_on, due_at, taken_at}
+use Rattle.open_end.specs.OpenEnd.{no_channel, due_at, taken_at}
 use Rattle.connection.specs.declared.Connection.{Connection}
 use Rattle.connection.specs.Calls.{closed_due, request_due, open_due, due_of, open_taken, taken_by}
 use Rattle.reachable.specs.Reachable.{ElevenBits, Tally, start, Bounded, Agreed, Ours, Sends, Receives, Tested, Framed, Untested, Holds, ReachableHolds, ProfilesFit}
@@ -130,20 +133,20 @@ stage-own (talking s k l x o) e = refl
 
 module _ (c : Channel) (m : List ℕ) where
   -- a frame of the sending half that is due goes out, or something before it does
-  due-frame : Due c.sender → length m ≡ c.sender.length → (due c m).given ≡ true
+  due-frame : Due c.sender → length m ≡ c.sender.length → is_some (due c m).payload ≡ true
   due-frame d e = go (rw (handed-frame c.parameters.terms c.sender m d e) at (due-outcome c m))
     where
-      go : {s : Sender} {p : Payload} {x : ChannelDue} → DueOutcome c (record { note = Frame; sender = s; payload = p }) x → x.given ≡ true
+      go : {s : Sender} {p : Payload} {x : ChannelDue} → DueOutcome c (record { note = Frame p; sender = s }) x → is_some x.payload ≡ true
       go (accept-goes a) = refl
       go (test-goes a t) = refl
       go (ack-goes a t k) = refl
       go (frame-goes t) = refl
 
   -- so does a test
-  due-test : test_due c ≡ true → (due c m).given ≡ true
+  due-test : test_due c ≡ true → is_some (due c m).payload ≡ true
   due-test d = go (due-outcome c m)
     where
-      go : {h : Handed} {x : ChannelDue} → DueOutcome c h x → x.given ≡ true
+      go : {h : Handed} {x : ChannelDue} → DueOutcome c h x → is_some x.payload ≡ true
       go (accept-goes a) = refl
       go (test-goes a t) = refl
       go (ack-goes a t k) = refl
@@ -152,14 +155,14 @@ module _ (c : Channel) (m : List ℕ) where
       go (other_length t) = absurd (true≢false (sym d ∙ t.test))
 
   -- and an answer
-  due-answer : (c.accept ≡ true) ⊎ (c.receiver.ack.due ≡ true) → (due c m).given ≡ true
+  due-answer : (c.accept ≡ true) ⊎ (c.receiver.ack.due ≡ true) → is_some (due c m).payload ≡ true
   due-answer d = go d (due-outcome c m)
     where
       no-turn : DataTurn c → (c.accept ≡ true) ⊎ (c.receiver.ack.due ≡ true) → ⊥
       no-turn t (inl a) = true≢false (sym a ∙ t.accept)
       no-turn t (inr k) = true≢false (sym k ∙ t.ack)
 
-      go : {h : Handed} {x : ChannelDue} → (c.accept ≡ true) ⊎ (c.receiver.ack.due ≡ true) → DueOutcome c h x → x.given ≡ true
+      go : {h : Handed} {x : ChannelDue} → (c.accept ≡ true) ⊎ (c.receiver.ack.due ≡ true) → DueOutcome c h x → is_some x.payload ≡ true
       go d (accept-goes a) = refl
       go d (test-goes a t) = refl
       go d (ack-goes a t k) = refl
@@ -182,7 +185,7 @@ no-phase : {p : ℕ} → p ≢ 1 → p ≢ 2 → (p ≡ 1) ⊎ (p ≡ 2) → ⊥
 no-phase a b (inl e) = a e
 no-phase a b (inr e) = b e
 
-stage-opening : {limit : ℕ} {t : Tally} {c : Connection} → Stage limit t c → (m : List ℕ) → (c.phase ≡ 1) ⊎ (c.phase ≡ 2) → c.attempt.wait ≡ 0 → (due_of c m).given ≡ true
+stage-opening : {limit : ℕ} {t : Tally} {c : Connection} → Stage limit t c → (m : List ℕ) → (c.phase ≡ 1) ⊎ (c.phase ≡ 2) → c.attempt.wait ≡ 0 → is_some (due_of c m).frame ≡ true
 unfolding due_of request_due
 stage-opening (at_rest f) m p w = absurd (no-phase (λ e. omega arith) (λ e. omega arith) p)
 stage-opening (leaving f x) m p w = absurd (no-phase (λ e. omega arith) (λ e. omega arith) p)
@@ -193,13 +196,13 @@ stage-opening (agreeing s k (awaited l r) x) m p w = absurd (omega arith)
 stage-opening (talking s k l x o) m p w = absurd (no-phase (λ e. omega arith) (λ e. omega arith) p)
 
 stage-sending : {limit : ℕ} {t : Tally} {c : Connection} → Stage limit t c → (m : List ℕ) → (let s = c.end.channel.sender in
-    0 < s.length → length m ≡ s.length → s.gap ≡ 0 → s.wait ≡ 0 → s.hold ≡ 0 → (due_of c m).given ≡ true)
+    0 < s.length → length m ≡ s.length → s.gap ≡ 0 → s.wait ≡ 0 → s.hold ≡ 0 → is_some (due_of c m).frame ≡ true)
 unfolding due_of open_due due_at
 stage-sending (at_rest f) m some = absurd (omega arith)
 stage-sending (leaving f x) m some = absurd (omega arith)
 stage-sending (requesting s a) m some = absurd (omega arith)
 stage-sending (agreeing s k a x) m some = absurd (omega arith)
-stage-sending (talking {ch = ch} s k l x o) m some = λ e gap wait hold. due-frame ch m (kept-due o.sender some gap wait hold) e
+stage-sending (talking {transmit = id} {ch = ch} s k l x o) m some = λ e gap wait hold. frame_on-some id (due ch m).payload ∙ due-frame ch m (kept-due o.sender some gap wait hold) e
 
 stage-frame : {limit : ℕ} {t : Tally} {c : Connection} → Stage limit t c → (let s = c.end.channel.sender in
     0 < s.length → s.gap ≡ 0 → s.wait ≡ 0 → s.hold ≡ 0 → frame_due s ≡ true)
@@ -207,28 +210,28 @@ stage-frame {c = c} k some gap wait hold =
     (frame_due-exactly c.end.channel.sender).1 (record { sending = some; waited = wait; free = hold; apart = gap; more = ((stage-sends k).inside some wait).0 })
 
 stage-testing : {limit : ℕ} {t : Tally} {c : Connection} → Stage limit t c → (m : List ℕ) → (let s = c.end.channel.sender in
-    c.end.channel.tests.out ≡ true → c.end.channel.tests.wait ≡ 0 → s.acked ≡ s.high → (due_of c m).given ≡ true)
+    c.end.channel.tests.out ≡ true → c.end.channel.tests.wait ≡ 0 → s.acked ≡ s.high → is_some (due_of c m).frame ≡ true)
 unfolding due_of open_due due_at
 stage-testing (at_rest f) m out = absurd (false≢true out)
 stage-testing (leaving f x) m out = absurd (false≢true out)
 stage-testing (requesting s a) m out = absurd (false≢true out)
 stage-testing (agreeing s k a x) m out = absurd (false≢true out)
-stage-testing (talking {ch = ch} s k l x o) m out = λ wait e. due-test ch m (again-due ch o.testing out wait e)
+stage-testing (talking {transmit = id} {ch = ch} s k l x o) m out = λ wait e. frame_on-some id (due ch m).payload ∙ due-test ch m (again-due ch o.testing out wait e)
 
 no_answer : (false ≡ true) ⊎ (false ≡ true) → ⊥
 no_answer (inl e) = false≢true e
 no_answer (inr e) = false≢true e
 
 stage-answering : {limit : ℕ} {t : Tally} {c : Connection} → Stage limit t c → (m : List ℕ)
-    → (c.end.channel.accept ≡ true) ⊎ (c.end.channel.receiver.ack.due ≡ true) → (due_of c m).given ≡ true
+    → (c.end.channel.accept ≡ true) ⊎ (c.end.channel.receiver.ack.due ≡ true) → is_some (due_of c m).frame ≡ true
 unfolding due_of open_due due_at
 stage-answering (at_rest f) m e = absurd (no_answer e)
 stage-answering (leaving f x) m e = absurd (no_answer e)
 stage-answering (requesting s a) m e = absurd (no_answer e)
 stage-answering (agreeing s k a x) m e = absurd (no_answer e)
-stage-answering (talking {ch = ch} s k l x o) m e = due-answer ch m e
+stage-answering (talking {transmit = id} {ch = ch} s k l x o) m e = frame_on-some id (due ch m).payload ∙ due-answer ch m e
 
-stage-leaving : {limit : ℕ} {t : Tally} {c : Connection} → Stage limit t c → (m : List ℕ) → c.leaving ≡ true → (due_of c m).given ≡ true
+stage-leaving : {limit : ℕ} {t : Tally} {c : Connection} → Stage limit t c → (m : List ℕ) → c.leaving ≡ true → is_some (due_of c m).frame ≡ true
 unfolding due_of closed_due
 stage-leaving (at_rest f) m e = absurd (false≢true e)
 stage-leaving (leaving f x) m e = refl
@@ -247,8 +250,8 @@ request-most : (p : Profile) (unit receive : ℕ) → (request_for p unit receiv
 unfolding request_for
 request-most p unit receive = by (λ (x : Payload). x.len ≤ 8) p.short (λ _. omega arith) (λ _. omega arith)
 
-stage-framed : {limit : ℕ} {t : Tally} {c : Connection} → Stage limit t c → (m : List ℕ) → (due_of c m).given ≡ true → Framed c (due_of c m)
-unfolding due_of closed_due request_due open_due due_at frame_on
+stage-framed : {limit : ℕ} {t : Tally} {c : Connection} → Stage limit t c → (m : List ℕ) → is_some (due_of c m).frame ≡ true → Framed c (due_of c m)
+unfolding due_of closed_due request_due open_due due_at
 stage-framed (at_rest f) m g = absurd (false≢true g)
 stage-framed (leaving f x) m g = record { on = inr refl; id = x; some = omega arith; most = omega arith }
 stage-framed (requesting {p = p} {s = s} f (due-now l)) m g =
@@ -256,9 +259,17 @@ stage-framed (requesting {p = p} {s = s} f (due-now l)) m g =
 stage-framed (requesting s (awaited l w)) m g = absurd (false≢true g)
 stage-framed (agreeing s k (due-now l) x) m g = record { on = inr refl; id = eleven-id s x; some = omega arith; most = omega arith }
 stage-framed (agreeing s k (awaited l w) x) m g = absurd (false≢true g)
-stage-framed (talking {ch = ch} s k l x o) m g =
-    let z = due-sized ch m g in
-    rw g (record { on = inr refl; id = eleven-id s x; some = z.some; most = z.most })
+stage-framed (talking {transmit = id} {ch = ch} s k l x o) m g =
+    let p = (due ch m).payload in
+    let z = due-sized ch m (sym (frame_on-some id p) ∙ g) in
+    let on = frame_on-id id p g in
+    let same = sym (frame_on-payload id p) in
+    record {
+      on = inr on;
+      id = subst (λ (n : ℕ). n < 0x800) (sym on) (eleven-id s x);
+      some = subst (λ (q : Payload). 1 ≤ q.len) same z.some;
+      most = subst (λ (q : Payload). q.len ≤ 8) same z.most;
+    }
 
 -- ---- with the interval 0
 
@@ -285,10 +296,10 @@ ack-no-test false n e = let same : 0x90 + n % 16 ≡ 0xA3 = ap (λ (s : List ℕ
 other-size : (s : List ℕ) → length s ≢ 1 → s ≢ 0xA3 ∷ []
 other-size s h e = h (ap length e)
 
-due-no-test : (c : Channel) (m : List ℕ) → test_due c ≡ false → bytes_of (due c m).payload ≢ 0xA3 ∷ []
+due-no-test : (c : Channel) (m : List ℕ) → test_due c ≡ false → bytes_of (given_payload (due c m).payload) ≢ 0xA3 ∷ []
 due-no-test c m none = go (frame_case c.parameters.terms c.sender m) (due-outcome c m)
   where
-    go : {h : Handed} {x : ChannelDue} → FrameCase c.parameters.terms c.sender m h → DueOutcome c h x → bytes_of x.payload ≢ 0xA3 ∷ []
+    go : {h : Handed} {x : ChannelDue} → FrameCase c.parameters.terms c.sender m h → DueOutcome c h x → bytes_of (given_payload x.payload) ≢ 0xA3 ∷ []
     go f (accept-goes a) = other-size _ (λ e. omega arith)
     go f (test-goes a t) = absurd (true≢false (sym t ∙ none))
     go f (ack-goes a t k) = ack-no-test c.receiver.ack.ready c.receiver.ack.number
@@ -312,20 +323,22 @@ tests-there (inl e) = true≢false e
 tests-there (inr e) = omega arith
 
 stage-untested : {limit : ℕ} {t : Tally} {c : Connection} → Stage limit t c → (c.profile.tests ≡ false) ⊎ (c.settings.t_ct ≡ 0) → Untested c
-unfolding due_of closed_due request_due open_due due_at frame_on test_due
+unfolding due_of closed_due request_due open_due due_at test_due
 stage-untested (at_rest f) z = absurd (tests-there z)
 stage-untested (leaving f x) z = absurd (tests-there z)
 stage-untested (requesting {p = p} {s = s} f (due-now l)) z = record { out = refl; again = refl; due = refl; none = λ m. request-no-test p s.unit s.receive }
 stage-untested (requesting s (awaited l w)) z = record { out = refl; again = refl; due = refl; none = λ m. other-size _ (λ e. omega arith) }
 stage-untested (agreeing s k (due-now l) x) z = record { out = refl; again = refl; due = refl; none = λ m. other-size _ (λ e. omega arith) }
 stage-untested (agreeing s k (awaited l w) x) z = record { out = refl; again = refl; due = refl; none = λ m. other-size _ (λ e. omega arith) }
-stage-untested (talking {p = p} {s = s} {ch = ch} f k l x o) either' =
+stage-untested (talking {p = p} {s = s} {transmit = id} {ch = ch} f k l x o) either' =
     let z = unused p s either' in
     record {
       out = (none-tested z o.testing).0;
       again = (none-tested z o.testing).1;
       due = untested-due o z;
-      none = λ m. either (due ch m).given (λ g. rw g (due-no-test ch m (untested-due o z))) (λ g. rw g (other-size _ (λ e. omega arith)));
+      none =
+          λ m. subst (λ (q : Payload). bytes_of q ≢ 0xA3 ∷ []) (sym (frame_on-payload id (due ch m).payload))
+          (due-no-test ch m (untested-due o z));
     }
 
 -- ---- all of it

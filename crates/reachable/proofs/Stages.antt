@@ -9,6 +9,7 @@ use mathlib.Core.Path.{◌≡◌, refl}
 use lib.ListN.{drop}
 use lib.Seq.{get_or-drop}
 use Rattle.laws.proofs.Cases.{by, by-not, by-eq, by-lt, by_le, either}
+use Rattle.std.specs.Option.{is_some}
 use Rattle.telegram.specs.Kinds.{bad_block}
 use Rattle.telegram.specs.Time.{tenths_of}
 use Rattle.telegram.specs.Forms.{Bytes}
@@ -30,7 +31,7 @@ use Rattle.channel.specs.Opened.{elapsed as channel_elapsed, due}
 use Rattle.arrival.specs.Arrived.{arrived as channel_arrived}
 use Rattle.open_end.specs.declared.Course.{Course}
 use Rattle.open_end.specs.declared.Course.TheVariants.{GoesOn, GivenUp, Leaves}
-use Rattle.open_end.specs.OpenEnd.{unopened, course_of, arrived_at, elapsed_at, due_at, sent_at, taken_at}
+use Rattle.open_end.specs.OpenEnd.{unopened, course_of, arrived_at, elapsed_at, frame_on, due_at, sent_at, taken_at}
 use Rattle.connection.specs.declared.attempt.Attempt.{Attempt}
 use Rattle.connection.specs.declared.Connection.{Connection}
 use Rattle.open_end.specs.declared.answers.Answered.{Answered}
@@ -170,7 +171,8 @@ asks-stage m (requesting s (due-now l)) = requesting s (awaited l s.ranges.t_e.0
 asks-stage m (requesting s (awaited l w)) = requesting s (awaited l w)
 asks-stage m (agreeing s k (due-now l) x) = agreeing s k (awaited l s.ranges.t_e.0) x
 asks-stage m (agreeing s k (awaited l w) x) = agreeing s k (awaited l w) x
-asks-stage m (talking {ch = ch} s k l x o) = either (due ch m).given (λ e. rw e (talking s k l x (due-open o m))) (λ e. rw e (talking s k l x (due-open o m)))
+asks-stage m (talking {transmit = id} {ch = ch} s k l x o) =
+    either (is_some (frame_on id (due ch m).payload)) (λ e. rw e (talking s k l x (due-open o m))) (λ e. rw e (talking s k l x (due-open o m)))
 
 -- ---- a frame arrives
 

@@ -1,5 +1,7 @@
 -- Every record that calls can lead to, from a closed one on, and what holds of it. `reachable` of proofs/Reachable.antt proves it.
 use Rattle.std.specs.Prelude.{ℕ, ◌+◌, ◌*◌, ◌/◌, ◌%◌, ◌^◌, ◌<◌, ◌≤◌, true, false, List, [], ◌∷◌, ◌≢◌, ◌⊎◌, ◌≡◌, eqb, length, if◌then◌else◌}
+use Rattle.std.specs.Option.{is_some}
+use Rattle.open_end.specs.OpenEnd.{given_frame}
 use Rattle.telegram.specs.Outgoing.{bytes_of}
 use Rattle.telegram.specs.Forms.{Bytes}
 use Rattle.telegram.specs.declared.cutting.Message.{Message}
@@ -81,7 +83,7 @@ abbrev pub tallied : Connection → Tally → Call → Tally
 tallied c t (opens p s) = if eqb (opening_as c p s).told.said.number 0 then record { most = s.mntc; requests = 0; setups = 0 } else t
 tallied c t (comes id s room) = t
 tallied c t (passes n) = t
-tallied c t (asks m) = if (due_of c m).given then counted c.phase t else t
+tallied c t (asks m) = if is_some (due_of c m).frame then counted c.phase t else t
 tallied c t (sends n) = t
 tallied c t (takes room) = t
 tallied c t closes = t
@@ -187,35 +189,35 @@ pub record Tested (allowed : ℕ) (t : Tests) : Type 0 where
 
 pub record Awake (c : Connection) : Type 0 where
   -- a request of an opening: T_E runs, or it goes out
-  pub opening : (m : List ℕ) → (c.phase ≡ 1) ⊎ (c.phase ≡ 2) → c.attempt.wait ≡ 0 → (due_of c m).given ≡ true
+  pub opening : (m : List ℕ) → (c.phase ≡ 1) ⊎ (c.phase ≡ 2) → c.attempt.wait ≡ 0 → is_some (due_of c m).frame ≡ true
   -- a message in sending: T3, a wait or a hold runs, or a frame goes out
   pub sending : (m : List ℕ) → (let s = c.end.channel.sender in
-      0 < s.length → length m ≡ s.length → s.gap ≡ 0 → s.wait ≡ 0 → s.hold ≡ 0 → (due_of c m).given ≡ true)
+      0 < s.length → length m ≡ s.length → s.gap ≡ 0 → s.wait ≡ 0 → s.hold ≡ 0 → is_some (due_of c m).frame ≡ true)
   -- and where nothing else goes before it, that frame is data: the message's next frame is due
   pub frame : (let s = c.end.channel.sender in 0 < s.length → s.gap ≡ 0 → s.wait ≡ 0 → s.hold ≡ 0 → frame_due s ≡ true)
   -- a test that is out: its wait runs, or, with no data unacknowledged, a frame goes out
   pub testing : (m : List ℕ) → (let s = c.end.channel.sender in
-      c.end.channel.tests.out ≡ true → c.end.channel.tests.wait ≡ 0 → s.acked ≡ s.high → (due_of c m).given ≡ true)
+      c.end.channel.tests.out ≡ true → c.end.channel.tests.wait ≡ 0 → s.acked ≡ s.high → is_some (due_of c m).frame ≡ true)
   -- our A1 and an Ack that are due
-  pub answering : (m : List ℕ) → (c.end.channel.accept ≡ true) ⊎ (c.end.channel.receiver.ack.due ≡ true) → (due_of c m).given ≡ true
+  pub answering : (m : List ℕ) → (c.end.channel.accept ≡ true) ⊎ (c.end.channel.receiver.ack.due ≡ true) → is_some (due_of c m).frame ≡ true
   -- the A8 of a closed record
-  pub leaving : (m : List ℕ) → c.leaving ≡ true → (due_of c m).given ≡ true
+  pub leaving : (m : List ℕ) → c.leaving ≡ true → is_some (due_of c m).frame ≡ true
 
 -- ---- what is handed over
 
 -- a frame on the ID of the profile's C0 (0x200 in TP 2.0) or the transmit ID, of eleven bits, with 1 to 8 bytes
 pub record Framed (c : Connection) (d : Due Connection) : Type 0 where
-  pub on : (d.frame.id ≡ c.profile.request) ⊎ (d.frame.id ≡ c.end.transmit)
-  pub id : d.frame.id < 0x800
-  pub some : 1 ≤ d.frame.payload.len
-  pub most : d.frame.payload.len ≤ 8
+  pub on : ((given_frame d.frame).id ≡ c.profile.request) ⊎ ((given_frame d.frame).id ≡ c.end.transmit)
+  pub id : (given_frame d.frame).id < 0x800
+  pub some : 1 ≤ (given_frame d.frame).payload.len
+  pub most : (given_frame d.frame).payload.len ≤ 8
 
 -- "test interval .., 0 means no tests", and a profile may have none (02, 10): none is out or due, and no A3 is handed over
 pub record Untested (c : Connection) : Type 0 where
   pub out : c.end.channel.tests.out ≡ false
   pub again : c.end.channel.tests.again ≡ false
   pub due : test_due c.end.channel ≡ false
-  pub none : (m : List ℕ) → bytes_of (due_of c m).frame.payload ≢ 0xA3 ∷ []
+  pub none : (m : List ℕ) → bytes_of (given_frame (due_of c m).frame).payload ≢ 0xA3 ∷ []
 
 -- "at most 11 sends at the default": each request of an opening goes out at most MNTC + 1 times
 pub record Few (t : Tally) : Type 0 where
@@ -234,7 +236,7 @@ pub record Holds (limit : ℕ) (r : Reached) : Type 0 where
   pub reports : (room : ℕ) → (taken_by r.connection room).flags < 16
   pub tested : Tested r.connection.end.channel.parameters.allowed r.connection.end.channel.tests
   pub awake : Awake r.connection
-  pub framed : (m : List ℕ) → (due_of r.connection m).given ≡ true → Framed r.connection (due_of r.connection m)
+  pub framed : (m : List ℕ) → is_some (due_of r.connection m).frame ≡ true → Framed r.connection (due_of r.connection m)
   pub untested : (r.connection.profile.tests ≡ false) ⊎ (r.connection.settings.t_ct ≡ 0) → Untested r.connection
   pub few : Few r.tally
   -- from the open on, the tally is that of the settings given

@@ -162,16 +162,14 @@ fn hand_over<R: Print + Eprint>(
     let mut turns: u8 = 4;
     while 0 < turns {
         let due = c.due(message);
-        let given = due.given;
-        let frame = due.frame;
         let next = due.left;
         c = next;
-        if !given {
+        let Some(frame) = due.frame else {
             return Played {
                 output,
                 connection: c,
             };
-        }
+        };
         output = print_frame(rt, output, frame);
         turns -= 1;
     }

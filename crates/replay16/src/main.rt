@@ -186,11 +186,10 @@ impl Played {
         let output = self.output;
         let c = self.connection;
         let due = c.due(message);
-        let frame = due.frame;
         let connection = due.left;
-        if !due.given {
+        let Some(frame) = due.frame else {
             return Played { output, connection };
-        }
+        };
         Played {
             output: print_frame(rt, output, frame),
             connection,

@@ -3,7 +3,7 @@ use Prim.Native.Nat.{ℕ, ◌+◌, ◌*◌, ◌/◌, ◌%◌, ◌≤◌, ◌<◌
 use native.Mathlib.Nat.{zero-add, dvd_iff_mod-eq-zero, mod-eq_of_lt, mod-add-mod}
 use native.Mathlib.Omega.{arith}
 use mathlib.Core.Bool.{true, false, or-true}
-use mathlib.Core.List.{List, [], ◌∷◌}
+use mathlib.Core.List.{List, ◌∷◌}
 use mathlib.Core.Logic.{◌↔◌, ◌≢◌}
 use mathlib.Core.Path.{◌≡◌, sym, ap, ◌∙◌}
 use lib.ListN.{length, take, drop}
@@ -14,7 +14,7 @@ use Rattle.telegram.specs.Cutting.{frames_of, stream_of, header_of, frame_at}
 use Rattle.sender.specs.declared.Terms.{Terms}
 use Rattle.sender.specs.declared.Sender.{Sender}
 use Rattle.sender.specs.declared.Handing.TheVariants.{Frame, Nothing as NoFrame, OtherLength}
-use Rattle.sender.specs.Sending.{passed, frame_due, first_number, handed}
+use Rattle.sender.specs.Sending.{passed, frame_due, first_number, is_frame, handed_payload, handed}
 use Rattle.sender.specs.declared.Passed.{Passed}
 use Rattle.sender.proofs.Time.{TimeCase, no-wait, runs_on, wait-used-up, sends-again, time_case}
 use Rattle.sender.proofs.Frames.{Due, frame_due-shows, frame_due-due, handed-frame, handed-exactly}
@@ -68,9 +68,8 @@ module _ (t : Terms) (s : Sender) (m : List ℕ) (ready : Ready s) (lent : lengt
   -- a frame inside a block, without AR and EOM: T3 starts, no wait does, and one frame more was handed over unless this is a repeat
   pub frame-middle : (t.block ∣ s.next + 1 → ⊥) → 7 * (s.next + 1) < s.length + 2 → handed t s m
       ≡ record {
-        note = Frame;
+        note = Frame (payload_of ((0x20 + number) ∷ take 7 (drop (7 * s.next) (length m / 256 % 16 ∷ length m % 256 ∷ m))));
         sender = record { length = s.length; acked = s.acked; high = max s.high (s.next + 1); next = s.next + 1; oldest = s.oldest; count = s.count; wait = 0; hold = s.hold; gap = t.t3 };
-        payload = payload_of ((0x20 + number) ∷ take 7 (drop (7 * s.next) (length m / 256 % 16 ∷ length m % 256 ∷ m)));
       }
   unfolding frame_at header_of stream_of
   frame-middle inside more =
@@ -81,9 +80,8 @@ module _ (t : Terms) (s : Sender) (m : List ℕ) (ready : Ready s) (lent : lengt
   -- the last of a block, "whose place in the message (from 1) is a multiple of the block size": AR, and "After the frame with AR the sender waits its own T1"
   pub frame-block-end : t.block ∣ s.next + 1 → 7 * (s.next + 1) < s.length + 2 → handed t s m
       ≡ record {
-        note = Frame;
+        note = Frame (payload_of (number ∷ take 7 (drop (7 * s.next) (length m / 256 % 16 ∷ length m % 256 ∷ m))));
         sender = record { length = s.length; acked = s.acked; high = max s.high (s.next + 1); next = s.next + 1; oldest = s.oldest; count = s.count; wait = t.t1; hold = s.hold; gap = t.t3 };
-        payload = payload_of (number ∷ take 7 (drop (7 * s.next) (length m / 256 % 16 ∷ length m % 256 ∷ m)));
       }
   unfolding frame_at header_of stream_of
   frame-block-end end more =
@@ -94,9 +92,8 @@ module _ (t : Terms) (s : Sender) (m : List ℕ) (ready : Ready s) (lent : lengt
   -- "EOM on the last", and AR with the wait too
   pub frame-last : s.length + 2 ≤ 7 * (s.next + 1) → handed t s m
       ≡ record {
-        note = Frame;
+        note = Frame (payload_of ((0x10 + number) ∷ take 7 (drop (7 * s.next) (length m / 256 % 16 ∷ length m % 256 ∷ m))));
         sender = record { length = s.length; acked = s.acked; high = max s.high (s.next + 1); next = s.next + 1; oldest = s.oldest; count = s.count; wait = t.t1; hold = s.hold; gap = t.t3 };
-        payload = payload_of ((0x10 + number) ∷ take 7 (drop (7 * s.next) (length m / 256 % 16 ∷ length m % 256 ∷ m)));
       }
   unfolding frame_at header_of stream_of
   frame-last all =
@@ -105,17 +102,17 @@ module _ (t : Terms) (s : Sender) (m : List ℕ) (ready : Ready s) (lent : lengt
 
 module _ (t : Terms) (s : Sender) (m : List ℕ) where
   -- a frame is handed over exactly where one is due and its message is lent
-  pub frame-exactly : (handed t s m).note ≡ Frame ↔ (Ready s × length m ≡ s.length)
+  pub frame-exactly : (is_frame (handed t s m).note ≡ true) ↔ (Ready s × length m ≡ s.length)
   frame-exactly =
       (λ e. let h = (handed-exactly t s m).0 e in (due-ready s h.0, h.1), λ h. (handed-exactly t s m).1 (ready-due s h.0, h.1))
 
   -- row 7, "lent message not of the accepted length": nothing changes
-  pub frame-other-length : Ready s → length m ≢ s.length → handed t s m ≡ record { note = OtherLength; sender = s; payload = payload_of [] }
+  pub frame-other-length : Ready s → length m ≢ s.length → handed t s m ≡ record { note = OtherLength; sender = s }
   unfolding handed
   frame-other-length r other = rw (frame_due-due s (ready-due s r), ne_eqb (length m) s.length other)
 
   -- no frame is due: none is handed over, and nothing changes
-  pub frame-none : (Ready s → ⊥) → handed t s m ≡ record { note = NoFrame; sender = s; payload = payload_of [] }
+  pub frame-none : (Ready s → ⊥) → handed t s m ≡ record { note = NoFrame; sender = s }
   unfolding handed
   frame-none none = either (frame_due s) (λ e. absurd (none (due-ready s (frame_due-shows s e)))) (λ e. rw e)
 
@@ -148,7 +145,7 @@ first-same s x e =
     only (first_number s) (first_number x) s.acked x.acked (first_small s) (first_small x) same
 
 -- "At least the peer's T3 lies between data frames": after a hand-over no other is due until T3 has passed
-pub frame_apart : (t : Terms) (s : Sender) (m : List ℕ) (n : ℕ) → (handed t s m).note ≡ Frame → n < t.t3 → frame_due (passed t (handed t s m).sender n).sender ≡ false
+pub frame_apart : (t : Terms) (s : Sender) (m : List ℕ) (n : ℕ) → is_frame (handed t s m).note ≡ true → n < t.t3 → frame_due (passed t (handed t s m).sender n).sender ≡ false
 frame_apart t s m n e h =
     let f = (handed-exactly t s m).0 e in
     let starts : (handed t s m).sender.gap ≡ t.t3 = rw (handed-frame t s m f.0 f.1) in
@@ -156,6 +153,6 @@ frame_apart t s m n e h =
 
 -- "A repeated frame has the same bytes as at first": they hang on its place, the message, the block size and the number of the message's first frame
 pub frame-repeated : (t : Terms) (s x : Sender) (m : List ℕ) → Ready s → Ready x → length m ≡ s.length → length m ≡ x.length → s.next ≡ x.next
-    → (s.oldest + x.acked) % 16 ≡ (x.oldest + s.acked) % 16 → (handed t s m).payload ≡ (handed t x m).payload
+    → (s.oldest + x.acked) % 16 ≡ (x.oldest + s.acked) % 16 → handed_payload (handed t s m).note ≡ handed_payload (handed t x m).note
 frame-repeated t s x m r q lent same place number =
     rw (handed-frame t s m (ready-due s r) lent, handed-frame t x m (ready-due x q) same, first-same s x number, place)

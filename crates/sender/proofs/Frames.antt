@@ -1,23 +1,23 @@
 -- When a frame is handed over, case by case, and which.
 use Prim.Native.Nat.{ℕ, ◌≤◌, ◌<◌}
 use native.Mathlib.Omega.{arith}
-use mathlib.Core.Bool.{true, false}
+use mathlib.Core.Bool.{true, false, false≢true}
 use mathlib.Core.List.{List, []}
 use mathlib.Core.Logic.{◌↔◌, ◌≢◌}
-use mathlib.Core.Path.{◌≡◌, refl, subst, ap, sym}
+use mathlib.Core.Path.{◌≡◌, refl, sym}
 use lib.Dec.{eqb}
 use lib.ListN.{length, get_or, length-take}
 use borrow.Author.Tests.{ltb-true, eqb-true, eqb-false, not-true, eq-eqb, ne_eqb, lt-ltb}
 use Rattle.laws.proofs.Cases.{by-not, both}
-use Rattle.telegram.specs.declared.payload.Payload.{Payload}
 use Rattle.telegram.specs.Outgoing.{bytes_of}
 use Rattle.telegram.specs.Cutting.{frames_of, frame_at, cutting}
 use Rattle.telegram.proofs.Cut.{cutting-at}
 use Rattle.sender.specs.declared.Terms.{Terms}
 use Rattle.sender.specs.declared.Sender.{Sender}
 use Rattle.sender.specs.declared.Handed.{Handed}
+use Rattle.sender.specs.declared.Handing.{Handing}
 use Rattle.sender.specs.declared.Handing.TheVariants.{Frame, Nothing, OtherLength}
-use Rattle.sender.specs.Sending.{frame_due, first_number, advanced, no_frame, handed}
+use Rattle.sender.specs.Sending.{frame_due, first_number, advanced, no_frame, is_frame, handed_payload, handed}
 
 -- a frame is due: a message is in sending, no wait, hold or gap runs, and the message has a next frame
 pub record Due (s : Sender) : Type 0 where
@@ -43,12 +43,18 @@ pub frame_due-due : (s : Sender) → Due s → frame_due s ≡ true
 unfolding frame_due
 frame_due-due s d = rw (ne_eqb s.length 0 (omega arith), d.waited, d.free, d.apart, lt-ltb _ _ d.more)
 
+-- a frame handed over is that of its bytes
+pub frame-given : (note : Handing) → is_frame note ≡ true → note ≡ Frame (handed_payload note)
+frame-given (Frame p) e = refl
+frame-given Nothing e = absurd (false≢true e)
+frame-given OtherLength e = absurd (false≢true e)
+
 -- what a call for a frame leaves, and what led to it
 pub data FrameCase (t : Terms) (s : Sender) (m : List ℕ) : Handed → Type 0 where
   none-due : frame_due s ≡ false → FrameCase t s m (no_frame s Nothing)
   other_length : Due s → length m ≢ s.length → FrameCase t s m (no_frame s OtherLength)
   frame-out : Due s → length m ≡ s.length
-      → FrameCase t s m (record { note = Frame; sender = advanced t s; payload = frame_at m t.block (first_number s) s.next })
+      → FrameCase t s m (record { note = Frame (frame_at m t.block (first_number s) s.next); sender = advanced t s })
 
 module _ (t : Terms) (s : Sender) (m : List ℕ) where
   -- every call for a frame is one of these cases
@@ -61,21 +67,23 @@ module _ (t : Terms) (s : Sender) (m : List ℕ) where
 
   -- where a frame is due and its message lent, it is handed over
   pub handed-frame : Due s → length m ≡ s.length
-      → handed t s m ≡ record { note = Frame; sender = advanced t s; payload = frame_at m t.block (first_number s) s.next }
+      → handed t s m ≡ record { note = Frame (frame_at m t.block (first_number s) s.next); sender = advanced t s }
   unfolding handed
   handed-frame d e = rw (frame_due-due s d, eq-eqb _ _ e)
 
   -- it is the frame of its place in the cutting
-  pub handed-cut : Due s → length m ≡ s.length → bytes_of (handed t s m).payload ≡ get_or (cutting m t.block (first_number s)) s.next []
+  pub handed-cut : Due s → length m ≡ s.length → bytes_of (handed_payload (handed t s m).note) ≡ get_or (cutting m t.block (first_number s)) s.next []
   handed-cut d e = rw (handed-frame d e) (sym (cutting-at m t.block (first_number s) s.next (rw e d.more)))
 
   -- a frame is given exactly where one is due and its message is lent
-  pub handed-exactly : (handed t s m).note ≡ Frame ↔ (Due s × length m ≡ s.length)
+  pub handed-exactly : (is_frame (handed t s m).note ≡ true) ↔ (Due s × length m ≡ s.length)
   handed-exactly =
-      (λ e. go (subst (λ k. FrameCase t s m (record { note = k; sender = (handed t s m).sender; payload = (handed t s m).payload })) e frame_case), λ h. ap (λ (x : Handed). x.note) (handed-frame h.0 h.1))
+      (go frame_case, λ h. rw (handed-frame h.0 h.1))
     where
-      go : {y : Sender} {p : Payload} → FrameCase t s m (record { note = Frame; sender = y; payload = p }) → Due s × length m ≡ s.length
-      go (frame-out d e) = (d, e)
+      go : {x : Handed} → FrameCase t s m x → is_frame x.note ≡ true → Due s × length m ≡ s.length
+      go (none-due _) e = absurd (false≢true e)
+      go (other_length _ _) e = absurd (false≢true e)
+      go (frame-out d l) e = (d, l)
 
 -- a later block ends as the first does: in blocks of four, the frame behind 15 others of a message of 200 bytes asks for an Ack, and the wait starts
 pub later-block-waits : (advanced (record { t1 = 1000; t3 = 50; t_wait = 1000; block = 4; repeats = 5 }) (record { length = 200; high = 15; next = 15; acked = 12; oldest = 12; count = 0; wait = 0; hold = 0; gap = 0 })).wait ≡ 1000
@@ -89,6 +97,6 @@ module _ (t : Terms) (s : Sender) (m : List ℕ) where
   handed-idle e = rw e
 
   -- a frame has one to eight bytes
-  pub handed-sized : (handed t s m).note ≡ Frame → (1 ≤ (handed t s m).payload.len) × ((handed t s m).payload.len ≤ 8)
+  pub handed-sized : is_frame (handed t s m).note ≡ true → (1 ≤ (handed_payload (handed t s m).note).len) × ((handed_payload (handed t s m).note).len ≤ 8)
   unfolding frame_at
   handed-sized e = let h = (handed-exactly t s m).0 e in rw (handed-frame t s m h.0 h.1) (omega arith, simp length-take (omega arith))

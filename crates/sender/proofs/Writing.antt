@@ -44,7 +44,7 @@ module _ (t : Terms) (m : List ℕ) (o : ℕ) (small : o < 16) (some : 0 < lengt
 
   module _ (a k : ℕ) (acked : a ≤ k) (window : k + 1 < a + 16) (more : k < frames_of (length m)) where
     -- frame k is due
-    handed-here : handed t (here a k) m ≡ record { note = Frame; sender = gone a k; payload = frame_at m t.block o k }
+    handed-here : handed t (here a k) m ≡ record { note = Frame (frame_at m t.block o k); sender = gone a k }
     handed-here =
         handed-frame t (here a k) m (record { sending = some; waited = refl; free = refl; apart = refl; more = more }) refl
         ∙ rw (first_number-true (here a k) o refl, mod-eq_of_lt small)

@@ -1,9 +1,10 @@
 -- 01, "Sending": what an open channel's sending half does at each call.
-use Rattle.std.specs.Prelude.{ℕ, ◌+◌, ◌-◌, ◌%◌, max, Bool, not, ◌&&◌, List, [], Result, Ok, Err, length, ltb, leb, eqb, if◌then◌else◌}
+use Rattle.std.specs.Prelude.{ℕ, ◌+◌, ◌-◌, ◌%◌, max, Bool, true, false, not, ◌&&◌, List, [], Result, Ok, Err, length, ltb, leb, eqb, if◌then◌else◌}
 use Rattle.telegram.specs.Outgoing.{payload_of}
 use Rattle.telegram.specs.Cutting.{frames_of, asks_at, frame_at}
 use Rattle.telegram.specs.declared.kinds.Telegram.{Telegram}
 use Rattle.telegram.specs.declared.kinds.Telegram.TheVariants.{Data, Ack, Test, Break, Disconnect, Setup, Accept, Malformed}
+use Rattle.telegram.specs.declared.payload.Payload.{Payload}
 use Rattle.sender.specs.declared.Terms.{Terms}
 use Rattle.sender.specs.declared.Sender.{Sender}
 use Rattle.sender.specs.declared.OfferError.{OfferError}
@@ -155,11 +156,23 @@ advanced t s =
 
 -- no frame handed over: nothing changes
 abbrev pub no_frame : Sender → Handing → Handed
-no_frame s why = record { note = why; sender = s; payload = payload_of [] }
+no_frame s why = record { note = why; sender = s }
+
+-- a frame was handed over
+abbrev pub is_frame : Handing → Bool
+is_frame (Frame p) = true
+is_frame NoFrame = false
+is_frame OtherLength = false
+
+-- its bytes, and none where none was
+abbrev pub handed_payload : Handing → Payload
+handed_payload (Frame p) = p
+handed_payload NoFrame = payload_of []
+handed_payload OtherLength = payload_of []
 
 -- the frame that is due, of the lent message; row 7 where that is not of the accepted length
 unfoldable pub handed : Terms → Sender → List ℕ → Handed
 handed t s m =
     if not (frame_due s) then no_frame s NoFrame
     else if not (eqb (length m) s.length) then no_frame s OtherLength
-    else record { note = Frame; sender = advanced t s; payload = frame_at m t.block (first_number s) s.next }
+    else record { note = Frame (frame_at m t.block (first_number s) s.next); sender = advanced t s }

@@ -7,7 +7,7 @@ use Rattle.sender.specs.declared.Sender.{Sender}
 use Rattle.sender.specs.declared.Heard.{Heard}
 use Rattle.sender.specs.declared.Hearing.{Hearing}
 use Rattle.sender.specs.declared.Hearing.TheVariants.{Nothing}
-use Rattle.sender.specs.Sending.{offered, handed, on_ack, ignored, passed}
+use Rattle.sender.specs.Sending.{offered, handed, handed_payload, on_ack, ignored, passed}
 
 -- the frames that went out, what the last Ack did, and the sender that is left
 pub record Written : Type 0 where
@@ -29,7 +29,7 @@ turns t m first zero k s note = record { frames = []; note = note; sender = s }
 turns t m first (suc n) k s note =
     let h = handed t s m in
     let a = answered t m first k h.sender in
-    before (bytes_of h.payload) (turns t m first n (k + 1) (passed t a.sender t.t3).sender a.note)
+    before (bytes_of (handed_payload h.note)) (turns t m first n (k + 1) (passed t a.sender t.t3).sender a.note)
 
 -- a message offered, then as many turns as it has frames
 abbrev pub written : (limit : ℕ) → Terms → Sender → List ℕ → Written

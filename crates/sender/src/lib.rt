@@ -102,10 +102,11 @@ pub struct Passed {
     pub sender: Sender,
 }
 
-// What a call for a frame found.
+// What a call for a frame found. It is no `Result<Option<Payload>, _>`: each of the three has its own name, and so one match
+// tells them apart.
 #[derive(Clone, Copy)]
 pub enum Handing {
-    Frame,
+    Frame(Payload),
     // No data is due now.
     Nothing,
     // Data is due, and the lent message is not of the accepted length.
@@ -116,7 +117,6 @@ pub enum Handing {
 pub struct Handed {
     pub note: Handing,
     pub sender: Sender,
-    pub payload: Payload,
 }
 
 impl Sender {
@@ -290,18 +290,16 @@ impl Sender {
     pub fn hand(self, terms: Terms, message: &[u8]) -> Handed
         ensures { result ≡ handed terms self message.now }
     {
-        let length = self.length;
-        let next = self.next;
         if !self.frame_due() {
             return self.no_frame(Handing::Nothing);
         }
-        if message.len() != length as usize {
+        if message.len() != self.length as usize {
             return self.no_frame(Handing::OtherLength);
         }
+        let payload = frame(message, terms.block, self.first_number(), self.next);
         Handed {
-            note: Handing::Frame,
+            note: Handing::Frame(payload),
             sender: self.advanced(terms),
-            payload: frame(message, terms.block, self.first_number(), next),
         }
     }
 
@@ -323,10 +321,6 @@ impl Sender {
         Handed {
             note: why,
             sender: self,
-            payload: Payload {
-                len: 0,
-                bytes: [0, 0, 0, 0, 0, 0, 0, 0],
-            },
         }
     }
 

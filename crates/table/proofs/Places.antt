@@ -20,7 +20,7 @@ use Rattle.channel.specs.declared.Answer.TheVariants.{Good, Done, Disconnected, 
 use Rattle.open_end.specs.declared.answers.Answer.TheVariants.{Channel, OtherId}
 use Rattle.open_end.specs.Answers.{said}
 use Rattle.open_end.specs.OpenEnd.{arrived_at}
-use Rattle.open_end.proofs.Rules.{plainly, no_frame}
+use Rattle.open_end.proofs.Rules.{plainly}
 use Rattle.connection.specs.declared.Connection.{Connection}
 use Rattle.open_end.specs.declared.answers.Answered.{Answered as RecordAnswered, Answered}
 use Rattle.open_end.specs.declared.answers.Arrived.{Arrived as RecordArrived}
@@ -193,7 +193,7 @@ module _ (t : Table) (p : ℕ) (out : 8 ≤ p) where
   unfolding elapses
   elapse-nowhere n = rw (le-leb 8 p out)
 
-  pub due-nowhere : (m : List ℕ) → hands t p m ≡ record { told = plainly NotDue 4; given = false; frame = no_frame; left = t }
+  pub due-nowhere : (m : List ℕ) → hands t p m ≡ record { told = plainly NotDue 4; frame = None; left = t }
   unfolding hands
   due-nowhere m = rw (le-leb 8 p out)
 
@@ -220,10 +220,10 @@ module _ (t : Table) (p : ℕ) (h : p < 8) where
   elapse-at n = rw (lt-leb 8 p h) (record { told = refl; left = alone t p (elapsed (record_at t p) n).left _ h refl })
 
   pub due-at : (m : List ℕ)
-      → (((hands t p m).told ≡ (due_of (record_at t p) m).told) × ((hands t p m).given ≡ (due_of (record_at t p) m).given) × ((hands t p m).frame ≡ (due_of (record_at t p) m).frame)
+      → (((hands t p m).told ≡ (due_of (record_at t p) m).told) × ((hands t p m).frame ≡ (due_of (record_at t p) m).frame)
       × Alone t p (due_of (record_at t p) m).left (hands t p m).left)
   unfolding hands
-  due-at m = rw (lt-leb 8 p h) (refl, refl, refl, alone t p (due_of (record_at t p) m).left _ h refl)
+  due-at m = rw (lt-leb 8 p h) (refl, refl, alone t p (due_of (record_at t p) m).left _ h refl)
 
   pub send_at : (limit n : ℕ) → Answers t p (sent_by limit (record_at t p) n) (sends limit t p n)
   unfolding sends

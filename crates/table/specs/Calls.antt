@@ -1,12 +1,12 @@
 -- 02, 7, "Several units at a time": what each call of a table answers and leaves.
 use Rattle.std.specs.Prelude.{ℕ, false, not, List, length, leb, if◌then◌else◌, None}
 use Rattle.std.specs.Borrow.{Bor}
+use Rattle.std.specs.declared.option.Option.TheVariants.{None}
 use Rattle.settings.specs.Settings.{allowed}
 use Rattle.settings.specs.declared.Settings.{Settings}
 use Rattle.channel.specs.declared.Answer.TheVariants.{NotDue}
 use Rattle.open_end.specs.declared.answers.Answer.TheVariants.{Channel, OtherId, OutOfRange, Full}
 use Rattle.open_end.specs.Answers.{told, gives, Look, seen}
-use Rattle.open_end.specs.OpenEnd.{no_frame}
 use Rattle.connection.specs.declared.Connection.{Connection}
 use Rattle.connection.specs.Calls.{opening, arrived, buffered, elapsed, due_of, sent_by, taken_by, closed}
 use Rattle.table.specs.declared.Table.{Table}
@@ -69,8 +69,8 @@ elapses t p n = if leb places p then nowhere t else answers t p (elapsed (at t p
 -- what is due, lent a message
 unfoldable pub hands : Table → (place : ℕ) → List ℕ → Due Table
 hands t p m =
-    if leb places p then record { told = told (Channel NotDue); given = false; frame = no_frame; left = t }
-    else (let d = due_of (at t p) m in record { told = d.told; given = d.given; frame = d.frame; left = with t p d.left })
+    if leb places p then record { told = told (Channel NotDue); frame = None; left = t }
+    else (let d = due_of (at t p) m in record { told = d.told; frame = d.frame; left = with t p d.left })
 
 -- a message of n bytes is offered
 unfoldable pub sends : (limit : ℕ) → Table → (place : ℕ) → ℕ → Answered Table

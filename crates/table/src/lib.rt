@@ -12,7 +12,7 @@ ghost use Rattle.open_end.specs.Answers.{looked};
 
 use connection::{CLOSED, Connection};
 use open_end::answers::{Answer, Answered, Due, Record, TakeStep, Taken, Told, tell};
-use open_end::{no_frame, shown};
+use open_end::shown;
 use settings::Settings;
 
 // How many places a table has.
@@ -175,8 +175,7 @@ impl Table {
         let Some(c) = self.places.get(p) else {
             return Due {
                 told: tell(Answer::Channel(channel::Answer::NotDue)),
-                given: false,
-                frame: no_frame(),
+                frame: None,
                 left: self,
             };
         };
@@ -184,7 +183,6 @@ impl Table {
         self.places[p] = d.left;
         Due {
             told: d.told,
-            given: d.given,
             frame: d.frame,
             left: self,
         }

@@ -361,7 +361,7 @@ impl Console {
         self.telling(
             rt,
             next,
-            Carried::handing(told.said, due.given, frame),
+            Carried::handing(told.said, frame),
             &[],
             text,
         )

@@ -1,6 +1,8 @@
 -- 02, 7, "Demand 3 holds for each connection": a place of a table as an end of `delivery`, each call by the very definition of its contract
 -- (but for a frame that this place does not own, at `heard`), while any calls go to the other places in between. proofs/Demand3.antt proves what is claimed.
 use Rattle.std.specs.Prelude.{ℕ, ◌≤◌, ◌<◌, true, List, [], ◌∷◌, ◌++◌, ◌≢◌, ◌≡◌, eqb, if◌then◌else◌}
+use Rattle.std.specs.Option.{is_some}
+use Rattle.open_end.specs.OpenEnd.{given_frame}
 use Rattle.telegram.specs.Outgoing.{bytes_of}
 use Rattle.channel.specs.declared.Answer.TheVariants.{NotDue}
 use Rattle.open_end.specs.declared.answers.Answer.TheVariants.{Channel}
@@ -79,7 +81,7 @@ shows t x = record { number = t.told.said.number; message = record { length = t.
 
 -- the same of what is due: the frame's ID and bytes
 abbrev pub gives : Due Table → Past → Given Past
-gives d x = record { given = d.given; id = d.frame.id; bytes = bytes_of d.frame.payload; state = x }
+gives d x = record { given = is_some d.frame; id = (given_frame d.frame).id; bytes = bytes_of (given_frame d.frame).payload; state = x }
 
 -- the table's calls at a place, each after what goes to the others; its channel and its two IDs are those of the record there
 abbrev pub place_end : (limit place : ℕ) → End

@@ -3,7 +3,6 @@ use Rattle.std.specs.Prelude.{ℕ, ◌≤◌, ◌<◌, Bool, false, ◌≡◌, �
 use Rattle.settings.specs.declared.Settings.{Settings}
 use Rattle.open_end.specs.declared.answers.Told.{Told}
 use Rattle.open_end.specs.declared.Frame.{Frame}
-use Rattle.open_end.specs.OpenEnd.{no_frame}
 use Rattle.connection.specs.declared.Connection.{Connection}
 use Rattle.connection.specs.Record.{is_closed, closed_record}
 use Rattle.connection.specs.Calls.{buffered}
@@ -28,20 +27,19 @@ start = record { table = empty; lent = replicate places [] }
 abbrev pub buffer_at : Desk → ℕ → List ℕ
 buffer_at d p = get_or d.lent p []
 
--- all that a call is answered with: a frame handed over if one is given, and a message's flags and bytes if one is shown.
+-- all that a call is answered with: the frame handed over, if there is one, and a message's flags and bytes if one is shown.
 -- A call's room is any number here; in a call of 01 it is the length of the lent buffer
 pub record Reply : Type 0 where
   pub told : Told
   pub place : Option ℕ
   pub padded : Bool
-  pub given : Bool
-  pub frame : Frame
+  pub frame : Option Frame
   pub flags : ℕ
   pub message : List ℕ
 
 -- an answer that carries nothing else
 abbrev pub plainly : Told → Reply
-plainly a = record { told = a; place = None; padded = false; given = false; frame = no_frame; flags = 0; message = [] }
+plainly a = record { told = a; place = None; padded = false; frame = None; flags = 0; message = [] }
 
 -- ---- "Take two runs from an empty table"
 
@@ -106,18 +104,18 @@ module _ (limit : ℕ) where
   abbrev pub reply : Desk → Call → Reply
   reply d (open' s) =
       (let r = opens d.table s in
-      record { told = r.told; place = r.place; padded = false; given = false; frame = no_frame; flags = 0; message = [] })
+      record { told = r.told; place = r.place; padded = false; frame = None; flags = 0; message = [] })
   reply d (frame id bytes room) =
       (let r = arrives limit d.table id bytes room in
-      record { told = r.told; place = r.place; padded = r.padded; given = false; frame = no_frame; flags = 0; message = [] })
+      record { told = r.told; place = r.place; padded = r.padded; frame = None; flags = 0; message = [] })
   reply d (time p n) = plainly (elapses d.table p n).told
   reply d (due p m) =
       (let r = hands d.table p m in
-      record { told = r.told; place = None; padded = false; given = r.given; frame = r.frame; flags = 0; message = [] })
+      record { told = r.told; place = None; padded = false; frame = r.frame; flags = 0; message = [] })
   reply d (send p n) = plainly (sends limit d.table p n).told
   reply d (take p room) =
       (let r = takes d.table p room in
-      record { told = r.told; place = None; padded = false; given = false; frame = no_frame; flags = r.flags; message = front r.len (buffer_at d p) })
+      record { told = r.told; place = None; padded = false; frame = None; flags = r.flags; message = front r.len (buffer_at d p) })
   reply d (close p) = plainly (closes d.table p).told
 
   -- the lent buffers after it: a frame's owner may have written to its own

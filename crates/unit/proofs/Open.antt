@@ -1,7 +1,7 @@
 -- The rules of an open unit in other words: "it sends and receives as in 01", on its IDs, and when it is closed. An A0 is in Setups.antt, a C0 in Requests.antt.
 use Prim.Native.Nat.{ℕ, ◌<◌, ◌≤◌}
 use native.Mathlib.Omega.{arith}
-use mathlib.Core.Bool.{true, false}
+use mathlib.Core.Bool.{false}
 use mathlib.Core.List.{List, [], ◌∷◌}
 use mathlib.Core.Logic.{◌≢◌}
 use mathlib.Core.Path.{◌≡◌, refl}
@@ -9,6 +9,8 @@ use lib.Dec.{eqb}
 use lib.ListN.{length}
 use borrow.Author.Tests.{lt-ltb, le-ltb, eq-eqb, ne_eqb}
 use Rattle.laws.proofs.Cases.{or-first, or-second}
+use Rattle.std.specs.declared.option.Option.TheVariants.{None, Some}
+use Rattle.telegram.specs.declared.payload.Payload.{Payload}
 use Rattle.telegram.specs.Kinds.{kind_of, sorted}
 use Rattle.telegram.specs.declared.kinds.Telegram.{Telegram}
 use Rattle.telegram.specs.declared.kinds.Telegram.TheVariants.{Data, Ack, Test, Break, Disconnect, Setup, Accept, Malformed}
@@ -20,7 +22,7 @@ use Rattle.channel.specs.Opened.{elapsed as channel_elapsed, due, sent}
 use Rattle.arrival.specs.Arrived.{answered, arrived as channel_arrived}
 use Rattle.open_end.specs.declared.answers.Answer.TheVariants.{Channel as ByChannel}
 use Rattle.open_end.specs.OpenEnd.{course_of, arrived_at, buffered_at, elapsed_at, frame_on, due_at, sent_at, taken_at}
-use Rattle.open_end.proofs.Rules.{no_channel, plainly, no_frame}
+use Rattle.open_end.proofs.Rules.{no_channel, plainly}
 use Rattle.unit.specs.declared.ControlUnit.{ControlUnit}
 use Rattle.unit.specs.Calls.{settled, at_end, on_open, arrived, buffered, open_elapsed, elapsed, open_due, due_of, open_sent, sent_by, open_taken, taken_by}
 use Rattle.unit.proofs.Rules.{resting}
@@ -127,26 +129,24 @@ module _ (c : ControlUnit) (open' : 6 ≤ c.phase) where
   -- ---- what is due
 
   -- a telegram of the channel goes out on the transmit ID
-  pub due_of-given : (m : List ℕ) → (let d = due c.end.channel m in
-      d.given ≡ true
+  pub due_of-given : (m : List ℕ) (p : Payload) → (let d = due c.end.channel m in
+      d.payload ≡ Some p
       → due_of c m
       ≡ record {
         told = record { answer = ByChannel d.answer; said = record { number = (said d.answer).number; done = (said d.answer).done; opcode = 0 } };
-        given = true;
-        frame = record { id = c.end.transmit; payload = d.payload };
+        frame = Some (record { id = c.end.transmit; payload = p });
         left = holding c d.channel;
       })
   unfolding due_of open_due due_at frame_on
-  due_of-given m g = rw (not_at 1 (omega arith), not_at 2 (omega arith), not_at 3 (omega arith), not_at 5 (omega arith), lt-ltb 5 c.phase open', g)
+  due_of-given m p g = rw (not_at 1 (omega arith), not_at 2 (omega arith), not_at 3 (omega arith), not_at 5 (omega arith), lt-ltb 5 c.phase open', g)
 
   -- and with none there is no frame
   pub due_of-none : (m : List ℕ) → (let d = due c.end.channel m in
-      d.given ≡ false
+      d.payload ≡ None
       → due_of c m
       ≡ record {
         told = record { answer = ByChannel d.answer; said = record { number = (said d.answer).number; done = (said d.answer).done; opcode = 0 } };
-        given = false;
-        frame = no_frame;
+        frame = None;
         left = holding c d.channel;
       })
   unfolding due_of open_due due_at frame_on

@@ -1,12 +1,13 @@
 -- The rules of a C0 and of its replies in other words: on 0x200 in every state, as bytes, and the record that is left, field by field.
 use Prim.Native.Nat.{ℕ, ◌+◌, ◌*◌, ◌/◌, ◌%◌, ◌<◌, ◌≤◌}
-use mathlib.Core.Bool.{true, false, not}
+use mathlib.Core.Bool.{false, not}
 use mathlib.Core.List.{List, [], ◌∷◌}
 use mathlib.Core.Logic.{◌≢◌, ◌⊎◌, inl, inr}
 use mathlib.Core.Path.{◌≡◌, refl}
 use lib.Dec.{eqb}
 use borrow.Author.Tests.{lt-ltb, le-ltb, eq-eqb, ne_eqb}
 use Rattle.laws.proofs.Branches.{and-off'}
+use Rattle.std.specs.declared.option.Option.TheVariants.{Some}
 use Rattle.telegram.specs.Forms.{Bytes, formless}
 use Rattle.opening.specs.Opening.{request_read, Request, NoRequest}
 use Rattle.opening.specs.Forms.{RequestForm}
@@ -121,12 +122,12 @@ module _ (c : ControlUnit) (m : List ℕ) where
   -- the D0: with its hand-over it is out, and nothing else changes
   pub due_of-replying : c.phase ≡ 3
       → due_of c m
-      ≡ record { told = plainly Good 0; given = true; frame = reply_bytes c 0xD0; left = record { phase = 4; reply = c.reply; settings = c.settings; end = c.end } }
+      ≡ record { told = plainly Good 0; frame = Some (reply_bytes c 0xD0); left = record { phase = 4; reply = c.reply; settings = c.settings; end = c.end } }
   unfolding due_of
   due_of-replying e = rw e
 
   -- "all filled in like D0; after the last three it is closed": nothing is due then, and the settings stay
   pub due_of-refusing : c.phase ≡ 2
-      → due_of c m ≡ record { told = plainly Good 0; given = true; frame = reply_bytes c c.reply; left = resting c.settings c.reply }
+      → due_of c m ≡ record { told = plainly Good 0; frame = Some (reply_bytes c c.reply); left = resting c.settings c.reply }
   unfolding due_of
   due_of-refusing e = rw e

@@ -9,6 +9,7 @@ use lib.Dec.{eqb}
 use borrow.Author.Tests.{lt-ltb, le-ltb, ne_eqb, eqb-false, not-true}
 use Rattle.laws.proofs.Branches.{or-on'}
 use Rattle.laws.proofs.Cases.{both, by-eq, either}
+use Rattle.std.specs.declared.option.Option.TheVariants.{None, Some}
 use Rattle.opening.specs.Opening.{refusal, request_id}
 use Rattle.opening.proofs.Rules.{refusal-exactly}
 use Rattle.settings.specs.Settings.{allowed}
@@ -17,7 +18,7 @@ use Rattle.profile.specs.Profile.{tp20}
 use Rattle.settings.proofs.Rules.{InRange, allowed-exactly}
 use Rattle.channel.specs.declared.Answer.TheVariants.{Good, NotDue}
 use Rattle.open_end.specs.declared.answers.Answer.TheVariants.{OutOfRange}
-use Rattle.open_end.proofs.Rules.{no_channel, plainly, no_frame}
+use Rattle.open_end.proofs.Rules.{no_channel, plainly}
 use Rattle.unit.specs.declared.ControlUnit.{ControlUnit}
 use Rattle.unit.specs.Record.{is_closed, is_open, is_reply, settable, closed_unit}
 use Rattle.unit.specs.Calls.{set_to, arrived, buffered, elapsed, due_of, sent_by, taken_by, closed}
@@ -109,7 +110,7 @@ module _ (c : ControlUnit) (closed' : c.phase < 3) where
   closed-closed = rw (lt-ltb c.phase 3 closed')
 
 -- with nothing due there is no frame: closed, or with the D0 out
-pub due_of-closed : (c : ControlUnit) (m : List ℕ) → (c.phase ≡ 0) ⊎ (c.phase ≡ 4) → due_of c m ≡ record { told = plainly Good 0; given = false; frame = no_frame; left = c }
+pub due_of-closed : (c : ControlUnit) (m : List ℕ) → (c.phase ≡ 0) ⊎ (c.phase ≡ 4) → due_of c m ≡ record { told = plainly Good 0; frame = None; left = c }
 unfolding due_of
 due_of-closed c m (inl e) = rw e
 due_of-closed c m (inr e) = rw e
@@ -119,8 +120,7 @@ pub due_of-leaving : (c : ControlUnit) (m : List ℕ) → c.phase ≡ 1
     → due_of c m
     ≡ record {
       told = plainly Good 0;
-      given = true;
-      frame = record { id = c.end.transmit; payload = record { len = 1; bytes = 0xA8 ∷ 0 ∷ 0 ∷ 0 ∷ 0 ∷ 0 ∷ 0 ∷ 0 ∷ [] } };
+      frame = Some (record { id = c.end.transmit; payload = record { len = 1; bytes = 0xA8 ∷ 0 ∷ 0 ∷ 0 ∷ 0 ∷ 0 ∷ 0 ∷ 0 ∷ [] } });
       left = resting c.settings c.reply;
     }
 unfolding due_of

@@ -7,6 +7,7 @@ use mathlib.Core.Logic.{◌≢◌}
 use mathlib.Core.Path.{◌≡◌, ◌∙◌}
 use borrow.Author.Tests.{lt-ltb, le-ltb, eq-eqb, ne_eqb}
 use Rattle.laws.proofs.Cases.{by_le}
+use Rattle.std.specs.declared.option.Option.TheVariants.{Some}
 use Rattle.telegram.specs.Kinds.{bad_block, kind_of, sorted}
 use Rattle.settings.proofs.Agreement.{unit, tenths-are}
 use Rattle.channel.specs.declared.Answer.TheVariants.{Good, Disconnected, Malformed, BlockSize, NotDue}
@@ -161,12 +162,13 @@ pub due_of-accepting : (c : ControlUnit) (m : List ℕ) → c.phase ≡ 5
     → due_of c m
     ≡ record {
       told = plainly Good 0;
-      given = true;
       frame =
+          Some (
           record {
             id = c.end.transmit;
             payload = record { len = 6; bytes = 0xA1 ∷ c.settings.block ∷ c.settings.t1 ∷ 0xFF ∷ c.settings.t3 ∷ 0xFF ∷ 0 ∷ 0 ∷ [] };
-          };
+          }
+          );
       left = record { phase = 6; reply = c.reply; settings = c.settings; end = c.end };
     }
 unfolding due_of

@@ -130,7 +130,7 @@ accept_frame c = record { id = c.end.transmit; payload = accept_of (own_fields c
 unfoldable pub open_due : ControlUnit → List ℕ → Due ControlUnit
 open_due c m =
     (let d = due_at c.end m in
-    record { told = told (Channel d.answer); given = d.given; frame = d.frame; left = with_open_end c d.end })
+    record { told = told (Channel d.answer); frame = d.frame; left = with_open_end c d.end })
 
 -- at most one frame: a closed unit's A8 or refusal, the D0, the A1 that opens, or what the open end has due
 unfoldable pub due_of : ControlUnit → List ℕ → Due ControlUnit

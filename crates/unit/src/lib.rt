@@ -14,7 +14,7 @@ ghost use Rattle.unit.specs.Calls.{not_for_us, ends, set_to, on_request, on_setu
 ghost use Rattle.open_end.specs.Answers.{looked, gives, marked, hand_over, hand_nothing, shows};
 
 use open_end::answers::{Answer, Answered, Arrived, Due, Record, TakeStep, Taken, tell};
-use open_end::{Course, Frame, OpenEnd, course_of, no_frame, shown};
+use open_end::{Course, Frame, OpenEnd, course_of, shown};
 use opening::{
     NO_RESOURCES, NOT_FOR_NOW, NOT_SUPPORTED, POSITIVE, REQUEST_ID, Request, read_request,
     write_reply,
@@ -371,15 +371,10 @@ impl ControlUnit {
     fn open_due(mut self, message: &[u8]) -> Due<ControlUnit>
         ensures { result ≡ open_due self message.now }
     {
-        let end = self.end;
-        let d = end.due(message);
-        let answer = d.answer;
-        let frame = d.frame;
-        let next = d.end;
-        self.end = next;
+        let open_end::Due { answer, frame, end } = self.end.due(message);
+        self.end = end;
         Due {
             told: tell(Answer::Channel(answer)),
-            given: d.given,
             frame,
             left: self,
         }

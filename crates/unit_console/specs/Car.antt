@@ -27,7 +27,7 @@ abbrev pub arrives : Arrived ControlUnit → Reply Car
 arrives a = record { carried = marked a.told.said a.padded; len = 0; next = record { unit = a.left } }
 
 abbrev pub hands : Due ControlUnit → Reply Car
-hands d = record { carried = handing d.told.said d.given d.frame; len = 0; next = record { unit = d.left } }
+hands d = record { carried = handing d.told.said d.frame; len = 0; next = record { unit = d.left } }
 
 abbrev pub takes : TakeStep ControlUnit → Reply Car
 takes t = record { carried = showing t.told.said t.flags; len = t.len; next = record { unit = t.left } }

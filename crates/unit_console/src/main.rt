@@ -56,14 +56,9 @@ impl Record for Car {
     }
 
     fn due(self, message: &[u8]) -> Reply<Car> {
-        let Due {
-            told,
-            given,
-            frame,
-            left,
-        } = self.unit.due(message);
+        let Due { told, frame, left } = self.unit.due(message);
         Reply {
-            carried: Carried::handing(told.said, given, frame),
+            carried: Carried::handing(told.said, frame),
             len: 0,
             next: Car { unit: left },
         }

@@ -1,5 +1,7 @@
 -- The control unit as an end of `delivery`: each call by the very definition of its contract.
 use Rattle.std.specs.Prelude.{ℕ, ◌≤◌, true, not, ◌&&◌, eqb}
+use Rattle.std.specs.Option.{is_some}
+use Rattle.open_end.specs.OpenEnd.{given_frame}
 use Rattle.telegram.specs.Outgoing.{bytes_of}
 use Rattle.opening.specs.Opening.{request_id}
 use Rattle.open_end.specs.declared.answers.Said.{Said}
@@ -23,7 +25,7 @@ shows t = record { number = t.told.said.number; message = record { length = t.le
 
 -- the same of what is due: the frame's ID and bytes
 abbrev pub hands : Due ControlUnit → Given ControlUnit
-hands d = record { given = d.given; id = d.frame.id; bytes = bytes_of d.frame.payload; state = d.left }
+hands d = record { given = is_some d.frame; id = (given_frame d.frame).id; bytes = bytes_of (given_frame d.frame).payload; state = d.left }
 
 -- the unit's calls. Open means here: open, with a receive ID other than 0x200, as `set` sees to
 abbrev pub unit_end : (limit : ℕ) → End

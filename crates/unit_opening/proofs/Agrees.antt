@@ -10,6 +10,8 @@ use lib.ListN.{length}
 use lib.Dec.{eqb}
 use borrow.Author.Tests.{ne_eqb, eqb-false}
 use Rattle.laws.proofs.Cases.{by}
+use Rattle.std.specs.Option.{is_some}
+use Rattle.open_end.specs.OpenEnd.{given_frame}
 use Rattle.telegram.specs.Outgoing.{bytes_of}
 use Rattle.opening.specs.Opening.{request_id, refusal}
 use Rattle.opening.proofs.Rules.{refusal-exactly}
@@ -78,7 +80,7 @@ module _ (s : Settings) (u : ControlUnit) where
 
   -- a frame is due or under way, whatever is lent
   abbrev MovingAt : Place → Type 0
-  MovingAt p = (m n : List ℕ) → ((due_of p.active m).given ≡ true) ⊎ (((unit_due p.unit n).given ≡ true) ⊎ ((p.forward ≢ []) ⊎ (p.backward ≢ [])))
+  MovingAt p = (m n : List ℕ) → (is_some (due_of p.active m).frame ≡ true) ⊎ ((is_some (unit_due p.unit n).frame ≡ true) ⊎ ((p.forward ≢ []) ⊎ (p.backward ≢ [])))
 
   -- with no turn left both have ended
   abbrev Ends : (left : List Call) → Place → Type 0
@@ -135,14 +137,14 @@ module _ (limit : ℕ) (s : Settings) (u : ControlUnit) (ready : Ready s u) wher
 
   -- what it hands over goes behind the A1
   acting-hands : {v : ControlUnit} {behind : List Flying} → Acting s u limit v behind → (m : List ℕ) (t : Try) → (let d = unit_due v m in
-      Acting s u limit d.left (if d.given then behind ++ (record { id = d.frame.id; bytes = bytes_of d.frame.payload; try = t } ∷ []) else behind))
+      Acting s u limit d.left (if is_some d.frame then behind ++ (record { id = (given_frame d.frame).id; bytes = bytes_of (given_frame d.frame).payload; try = t } ∷ []) else behind))
   acting-hands {v} {behind} f m t =
       let r = (unit_lawful limit).hands f.tied m in
       record {
         line = _;
         tied = r.tied;
         terms = due-terms f.line m ∙ f.terms;
-        fits = by (Fits Carried s.receive) (unit_due v m).given (λ e. fits_more Carried s.receive behind _ f.fits (r.id e) (r.kind e)) (λ e. f.fits);
+        fits = by (Fits Carried s.receive) (is_some (unit_due v m).frame) (λ e. fits_more Carried s.receive behind _ f.fits (r.id e) (r.kind e)) (λ e. f.fits);
       }
 
   pub free : Freedom limit s u (Acting s u limit) (λ v a. Unit {0})

@@ -11,6 +11,8 @@ use lib.ListN.{length}
 use lib.Dec.{ltb, eqb}
 use borrow.Author.Tests.{ne_eqb}
 use Rattle.laws.proofs.Cases.{by}
+use Rattle.std.specs.Option.{is_some}
+use Rattle.open_end.specs.OpenEnd.{given_frame, course_of, sent_at, taken_at, elapsed_at, frame_on, due_at, with_channel}
 use Rattle.telegram.specs.Outgoing.{bytes_of}
 use Rattle.opening.specs.Opening.{request_id}
 use Rattle.settings.specs.Agreed.{own_fields, agreed}
@@ -20,7 +22,6 @@ use Rattle.sender.specs.declared.Offered.{Offered}
 use Rattle.receiver.specs.Receiving.{took}
 use Rattle.channel.specs.Numbers.{said}
 use Rattle.channel.specs.Opened.{fresh, with_tests, with_sender, none_out, offer_answer, sent, wait_ends, elapsed as channel_elapsed, hand_data, due as channel_due}
-use Rattle.open_end.specs.OpenEnd.{course_of, sent_at, taken_at, elapsed_at, frame_on, due_at, with_channel}
 use Rattle.unit.specs.declared.ControlUnit.{ControlUnit}
 use Rattle.unit.specs.Record.{phase_open, with_open_end}
 use Rattle.unit.specs.Calls.{settled, open_sent, sent_by, open_taken, taken_by, open_elapsed, elapsed, open_due, due_of}
@@ -76,7 +77,7 @@ module _ (limit : ℕ) (s : Settings) (u : ControlUnit) where
   calm-times (calm k) n = rw (zero-sub n) (calm (k - n))
 
   calm-hands : {v : ControlUnit} {behind : List Flying} → Calm s u v behind → (m : List ℕ) → Silent limit v due → (t : Try) → (let d = due_of v m in
-      Calm s u d.left (if d.given then behind ++ (record { id = d.frame.id; bytes = bytes_of d.frame.payload; try = t } ∷ []) else behind))
+      Calm s u d.left (if is_some d.frame then behind ++ (record { id = (given_frame d.frame).id; bytes = bytes_of (given_frame d.frame).payload; try = t } ∷ []) else behind))
   unfolding due_of open_due due_at frame_on channel_due hand_data handed frame_due
   calm-hands (calm k) m permit t = rw (permit refl) (calm k)
 

@@ -8,6 +8,7 @@ use lib.ListN.{length, drop}
 use lib.Dec.{eqb}
 use borrow.Author.Tests.{ltb-true, le-ltb}
 use Rattle.laws.proofs.Cases.{by, both}
+use Rattle.std.specs.Option.{is_some}
 use Rattle.opening.specs.Opening.{request_id}
 use Rattle.telegram.specs.Kinds.{sorted}
 use Rattle.settings.specs.declared.Settings.{Settings}
@@ -101,7 +102,7 @@ module _ (limit : ℕ) where
       rw (open-now, not-closed)
   hand-over-quiet {v = v} (closed f) m =
       let same : (due_of v m).left ≡ v = ap (λ (g : Given ControlUnit). g.state) (f.hands m) in
-      let none : (due_of v m).given ≡ false = ap (λ (g : Given ControlUnit). g.given) (f.hands m) in
+      let none : is_some (due_of v m).frame ≡ false = ap (λ (g : Given ControlUnit). g.given) (f.hands m) in
       rw (same, none, not_opened (unit_open v), nothing-given (unit_closed v) _)
 
 module _ (limit : ℕ) (s : Settings) (u : ControlUnit) (b : Bench limit) (l : Later s u limit b.near.state b.far.state b.forward b.backward) where

@@ -9,6 +9,8 @@ use mathlib.Core.Path.{◌≡◌, refl, subst}
 use lib.ListN.{length, drop}
 use borrow.Author.Tests.{ltb-false}
 use Rattle.laws.proofs.Branches.{and-off'}
+use Rattle.std.specs.Option.{is_some}
+use Rattle.open_end.specs.OpenEnd.{given_frame}
 use Rattle.telegram.specs.Outgoing.{bytes_of}
 use Rattle.opening.specs.Opening.{request_id, reply_of}
 use Rattle.settings.specs.Settings.{allowed}
@@ -56,7 +58,7 @@ pub record Freedom (limit : ℕ) (s : Settings) (u : ControlUnit) (Free : Contro
   pub times : {v : ControlUnit} {behind : List Flying} → Free v behind → (n : ℕ) → Free (unit_elapsed v n).left behind
   pub hands : {v : ControlUnit} {behind : List Flying} → Free v behind → (m : List ℕ) → Permit v due → (t : Try)
       → (let d = unit_due v m in
-      Free d.left (if d.given then behind ++ (record { id = d.frame.id; bytes = bytes_of d.frame.payload; try = t } ∷ []) else behind))
+      Free d.left (if is_some d.frame then behind ++ (record { id = (given_frame d.frame).id; bytes = bytes_of (given_frame d.frame).payload; try = t } ∷ []) else behind))
   pub ties : {v : ControlUnit} {behind : List Flying} → Free v behind → Acting s u limit v behind
 
 module _ (limit : ℕ) (s : Settings) (u : ControlUnit) (ready : Ready s u) where
@@ -282,7 +284,7 @@ module _ (limit : ℕ) (s : Settings) (u : ControlUnit) (ready : Ready s u) {Fre
         free-due : Permit v due → Moved left_one (at far due) (seen limit (turned (asking (turned (bench under-way)))) [] (unit_opened s u ∷ hand_over_ends v (lent back)))
         unfolding asking
         free-due permit =
-            rw (hand-over-quiet limit (freedom.ties free).tied (lent back), before-either (unit_due v (lent back)).given (a1 s u t) _ behind)
+            rw (hand-over-quiet limit (freedom.ties free).tied (lent back), before-either (is_some (unit_due v (lent back)).frame) (a1 s u t) _ behind)
             (kept refl (a1-out o wait l t (freedom.hands free (lent back) permit _)))
 
         -- it arrives, and both ends have been open

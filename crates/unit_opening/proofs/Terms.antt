@@ -89,7 +89,7 @@ module _ (limit : ℕ) (d : Direction) where
   received-terms lost (f ∷ l) = refl
 
   frame-terms : (note : Handing) (s : Sender) → Same (handed_by d note s)
-  frame-terms Frame s = refl
+  frame-terms (Frame p) s = refl
   frame-terms Nothing s = refl
   frame-terms OtherLength s = refl
 

@@ -1,6 +1,8 @@
 -- 02, request 5: "Show that an active end and this one .. always end opening with the same block size and each other's IDs, or with the same refusal opcode".
 -- The two are a system of `delivery`: near is the active end, a connection record, and far the control unit.
 use Rattle.std.specs.Prelude.{ℕ, min, ◌<◌, ◌≤◌, true, false, not, ◌&&◌, List, [], ◌∷◌, ◌++◌, ◌⊎◌, ◌≢◌, ◌≡◌, length, get_or, eqb, if◌then◌else◌}
+use Rattle.std.specs.Option.{is_some}
+use Rattle.open_end.specs.OpenEnd.{given_frame}
 use Rattle.telegram.specs.Outgoing.{bytes_of}
 use Rattle.opening.specs.Opening.{refusal}
 use Rattle.settings.specs.declared.Settings.{Settings}
@@ -47,9 +49,9 @@ arrival_ends limit c (f ∷ rest) room =
 abbrev pub hand_over_ends : ControlUnit → (lent : List ℕ) → List Outcome
 hand_over_ends u m =
     (let d = due_of u m in
-    let opcode = get_or (bytes_of d.frame.payload) 1 0 in
+    let opcode = get_or (bytes_of (given_frame d.frame).payload) 1 0 in
     if not (unit_open u) && unit_open d.left then opened_as d.left.end ∷ []
-    else if unit_closed u && d.given && refusal opcode then refused opcode ∷ []
+    else if unit_closed u && is_some d.frame && refusal opcode then refused opcode ∷ []
     else [])
 
 -- what is wanted at a side: with D0 set, open with a block size and that side's two IDs, else the opcode of the refusal
@@ -162,8 +164,8 @@ module _ (limit : ℕ) where
   -- a frame is due at an end, or under way in a link
   abbrev pub Moving : Bench → Type 0
   Moving b =
-      ((active_due b.near.state (lent b.forth)).given ≡ true)
-      ⊎ (((due_of b.far.state (lent b.back)).given ≡ true)
+      (is_some (active_due b.near.state (lent b.forth)).frame ≡ true)
+      ⊎ ((is_some (due_of b.far.state (lent b.back)).frame ≡ true)
       ⊎ ((b.forward ≢ []) ⊎ (b.backward ≢ [])))
 
   -- after a list of calls, with what is wanted at either side

@@ -5,6 +5,7 @@ use mathlib.Core.List.{List}
 use mathlib.Core.Path.{◌≡◌, refl}
 use lib.Dec.{eqb}
 use Rattle.laws.proofs.Cases.{by, by-not, Makes}
+use Rattle.std.specs.declared.option.Option.{Option}
 use Rattle.settings.specs.Settings.{allowed}
 use Rattle.settings.specs.declared.Settings.{Settings}
 use Rattle.open_end.specs.declared.Frame.{Frame}
@@ -59,8 +60,8 @@ time-told c n = by-not (Makes tells _) (is_open c) (λ e. rw e) (λ e. rw (e, se
 -- ---- what is due
 
 module _ (c : ControlUnit) (m : List ℕ) where
-  abbrev hands-over : Due ControlUnit → Said × (Bool × Frame × ControlUnit)
-  hands-over d = (d.told.said, (d.given, d.frame, d.left))
+  abbrev hands-over : Due ControlUnit → Said × (Option Frame × ControlUnit)
+  hands-over d = (d.told.said, (d.frame, d.left))
 
   pub due-told : due_says c m ≡ told_by (due_table c m)
   unfolding due_of open_due due_at

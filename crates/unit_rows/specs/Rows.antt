@@ -2,6 +2,7 @@
 -- and what they leave is written from the record's fields, numbers and bytes, apart from the definitions that the promises cite: of
 -- those only the calls are named here. What belongs to an open channel stands in crates/open_rows.
 use Rattle.std.specs.Prelude.{ℕ, ◌+◌, ◌/◌, ◌%◌, Bool, false, not, ◌&&◌, ◌||◌, List, [], ◌∷◌, length, get_or, ltb, leb, eqb, if◌then◌else◌}
+use Rattle.std.specs.declared.option.Option.{Option}
 use Rattle.telegram.specs.declared.payload.Payload.{Payload}
 use Rattle.settings.specs.declared.Settings.{Settings}
 use Rattle.open_end.specs.declared.Frame.{Frame}
@@ -143,7 +144,7 @@ reply_bytes c opcode =
 
 -- a closed unit's A8 or refusal; the D0, from whose hand-over it is out; "A1 of its own settings", from whose hand-over this end is open;
 -- and then "Sending order .. CA and test, break, Ack, then data"; row 7, "only when the frame to hand over is data"
-abbrev pub due_table : ControlUnit → (m : List ℕ) → Table (Bool × Frame × ControlUnit)
+abbrev pub due_table : ControlUnit → (m : List ℕ) → Table (Option Frame × ControlUnit)
 due_table c m =
     (let ch = c.end.channel in
     let own = ch.parameters.own in
@@ -161,8 +162,8 @@ due_table c m =
     or_else always (plain 0) (hands_none c))
 
 -- what a due call says, hands over and leaves
-abbrev pub due_says : ControlUnit → (m : List ℕ) → Said × (Bool × Frame × ControlUnit)
-due_says c m = ((due_of c m).told.said, ((due_of c m).given, (due_of c m).frame, (due_of c m).left))
+abbrev pub due_says : ControlUnit → (m : List ℕ) → Said × (Option Frame × ControlUnit)
+due_says c m = ((due_of c m).told.said, ((due_of c m).frame, (due_of c m).left))
 
 -- ---- send, take and close
 

@@ -13,7 +13,7 @@ use Rattle.connection.proofs.Connection.open_due.Goals as goal
 
 -- what the end has due, told of the record
 hands : (c : Connection) (m : List ℕ) (d : Due) (t : Told) → d ≡ due_at c.end m → t ≡ told (Channel d.answer)
-    → record { told = t; given = d.given; frame = d.frame; left = with_open_end c d.end } ≡ open_due c m
+    → record { told = t; frame = d.frame; left = with_open_end c d.end } ≡ open_due c m
 unfolding open_due
 hands c m d t at tells = rw (tells, at)
 

@@ -24,7 +24,7 @@ module _ (s : Sender) {due : Bool} (d : due ≡ frame_due s) (is : not due ≡ f
 
   frame-handed : (t : Terms) (m : List ℕ) {first : ℕ} {x : Sender} {p : Payload} → length m ≡ s.length
       → x ≡ advanced t s → first ≡ first_number s → p ≡ frame_at m t.block first s.next
-      → ◌≡◌ {A = Handed} (record { note = Frame; sender = x; payload = p }) (handed t s m)
+      → ◌≡◌ {A = Handed} (record { note = Frame p; sender = x }) (handed t s m)
   unfolding handed
   frame-handed t m l x f p = rw (x, p, f, ← d) (search branches)
 
@@ -32,9 +32,9 @@ pub returns-then-not-frame_due : goal.returns-then-not-frame_due
 unfolding handed
 returns-then-not-frame_due c = search branches
 
-pub returns-then-message-length : goal.returns-then-message-length
+pub returns-then-message-self : goal.returns-then-message-self
 unfolding handed
-returns-then-message-length c = search branches
+returns-then-message-self c = search branches
 
 pub advanced-requires : goal.advanced-requires
 unfolding handed

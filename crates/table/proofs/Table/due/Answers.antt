@@ -5,7 +5,7 @@ use Rattle.table.proofs.Table.due.Goals as goal
 
 pub returns-in_default : goal.returns-in_default
 unfolding hands
-returns-in_default c = rw (c.no_frame.ensures, c.tell.ensures, got-none c.args.self c.args.place (search rules) c.in_default.ensures.lookup)
+returns-in_default c = rw (c.tell.ensures, got-none c.args.self c.args.place (search rules) c.in_default.ensures.lookup)
 
 pub returns : goal.returns
 unfolding hands
