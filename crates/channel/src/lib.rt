@@ -156,11 +156,7 @@ fn offer_answer(note: Result<(), OfferError>) -> Answer
 fn repeats_used_up(note: Passing) -> bool
     ensures { result ≡ repeats_used_up note }
 {
-    match note {
-        Passing::Quiet => false,
-        Passing::Again => false,
-        Passing::UsedUp => true,
-    }
+    matches!(note, Passing::UsedUp)
 }
 
 impl Tests {

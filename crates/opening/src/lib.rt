@@ -12,7 +12,8 @@ pub mod short;
 // The CAN ID of every request; the unit answers on this ID and its own number.
 pub const REQUEST_ID: u16 = 0x200;
 
-// The opcode of the positive reply, and of the three negative ones.
+// The opcode of the positive reply, and of the three negative ones. Numbers: a unit can be set to reply by any byte, and one that is
+// none of these is answer 10 (`settable` of `unit`).
 pub const POSITIVE: u8 = 0xD0;
 
 pub const NOT_SUPPORTED: u8 = 0xD6;

@@ -1,4 +1,5 @@
-// The opening frames of TP 1.6 (SAE J3054, 5.1): three bytes, and channel IDs for CAN IDs.
+// The opening frames of TP 1.6 (SAE J3054, 5.1): three bytes, and channel IDs for CAN IDs. Functions of their own, since the two forms
+// have only unit and opcode in common.
 ghost use Rattle.std.specs.Prelude.{◌≡◌};
 ghost use Rattle.opening.specs.Short.{short_request_of, short_reply_of, short_request_read, short_reply_read};
 
@@ -25,13 +26,6 @@ pub fn write_reply(opcode: u8, transmit: u16) -> Payload
     }
 }
 
-// A channel ID as a CAN ID without its offset.
-fn channel_id(low: u8) -> u16
-    ensures { result ≡ low }
-{
-    low as u16
-}
-
 // Reads a request; the ID in it is without its offset. None if it is malformed.
 #[tactic(auto, using(laws::proofs::Branches::branches), unfolding(crate::specs::Short::short_request_read))]
 pub fn read_request(s: &[u8]) -> Option<Request>
@@ -43,7 +37,7 @@ pub fn read_request(s: &[u8]) -> Option<Request>
     if s[1] == 0xC0 {
         Some(Request {
             unit: s[0],
-            receive: channel_id(s[2]),
+            receive: s[2] as u16,
         })
     } else {
         None
@@ -63,7 +57,7 @@ pub fn read_reply(s: &[u8]) -> Result<u16, ReplyError>
     if (zero == 0x00) & (opcode == NO_RESOURCES) {
         Err(ReplyError::Refused(opcode))
     } else if (zero == 0x00) & (opcode == POSITIVE) {
-        Ok(channel_id(s[2]))
+        Ok(s[2] as u16)
     } else {
         Err(ReplyError::Malformed)
     }

@@ -9,7 +9,7 @@ use opening::{ReplyError, read_reply, short, write_request};
 use telegram::kinds::{Sorted, Telegram, sort};
 use telegram::payload::Payload;
 
-// Numbers from the least to the most, both belonging to it.
+// Numbers from the least to the most, both belonging to it. Not std's range, which is no `Copy`.
 #[derive(Clone, Copy)]
 pub struct Range {
     pub least: u16,

@@ -26,7 +26,8 @@ pub struct Standing {
     pub begun: Message,
 }
 
-// An Ack that is due, fixed when it became due.
+// An Ack that is due, fixed when it became due. A flag and no option, since it is promised too that nothing is left of an Ack that
+// was handed over (`ack_handed`).
 #[derive(Clone, Copy)]
 pub struct AckDue {
     pub due: bool,
@@ -59,7 +60,7 @@ pub enum Cause {
     EarlyEnd,
 }
 
-// What became of a data telegram.
+// What became of a data telegram. No result: a frame that is not used can ask for an Ack as one that is.
 #[derive(Clone, Copy)]
 pub enum Receipt {
     Used,

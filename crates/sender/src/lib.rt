@@ -25,7 +25,8 @@ pub struct Terms {
     pub repeats: u8,
 }
 
-// The state of sending. Frames are counted from the start of the message; a timer at 0 does not run.
+// The state of sending. Frames are counted from the start of the message; a timer at 0 does not run. No option holds them: each call is
+// promised on every record, with a timer beside no message too.
 #[derive(Clone, Copy)]
 pub struct Sender {
     // Length of the message in sending; 0 is none.
@@ -63,7 +64,7 @@ pub struct Offered {
     pub sender: Sender,
 }
 
-// What an Ack did.
+// What an Ack did. No result: four outcomes and two refusals, each with an answer of its own in `arrival`.
 #[derive(Clone, Copy)]
 pub enum Hearing {
     // It acknowledged some frames, and the message goes on.
@@ -86,7 +87,7 @@ pub struct Heard {
     pub sender: Sender,
 }
 
-// What passing time did.
+// What passing time did. No result: that a block is sent again is no refusal, though its wait ran out.
 #[derive(Clone, Copy)]
 pub enum Passing {
     Quiet,

@@ -5,8 +5,9 @@ ghost use Rattle.telegram.specs.Cutting.{frames_of, stream_of, header_of, asks_a
 
 use crate::payload::Payload;
 
-// A message as its first frame declares it: its length in bytes, and four flags, 0 to 15. Length 0 is none. Flags are as wide as
-// a length, so that a message has no gap between its fields.
+// A message as its first frame declares it: its length in bytes, and four flags, 0 to 15. Length 0 is none, and no option stands for
+// it: a first frame can declare 0, and each call is promised on records with flags beside it. Flags are as wide as a length, so that a
+// message has no gap between its fields.
 #[derive(Clone, Copy)]
 pub struct Message {
     pub length: u16,
@@ -146,7 +147,7 @@ fn headed(message: &[u8], head: u8, place: u16) -> Payload
     }
 }
 
-// The same at any place, each byte read by itself.
+// The same at any place, each byte read by itself. Written out: a loop would need an invariant that says these eight again.
 fn headed_end(message: &[u8], head: u8, place: u16) -> Payload
     ensures { result ≡ payload_of (head ∷ take 7 (drop (7 * place) (stream_of message.now))) }
 {

@@ -12,7 +12,8 @@ pub struct Parameters {
     pub t3: u8,
 }
 
-// A telegram's kind. The bytes that a data telegram carries stay in the slice, from its second byte on.
+// A telegram's kind. The bytes that a data telegram carries stay in the slice, from its second byte on. Badly formed is a kind like
+// the others, with a row of its own in the protocol's table.
 #[derive(Clone, Copy)]
 pub enum Telegram {
     Data { asks: bool, last: bool, number: u8 },

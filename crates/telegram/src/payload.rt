@@ -1,6 +1,6 @@
 // What goes out.
 
-// The bytes of a telegram: the first len of eight. Every writer leaves zeros behind them.
+// The bytes of a telegram: the first len of eight, as nothing here stands on the heap. Every writer leaves zeros behind them.
 #[derive(Clone, Copy)]
 pub struct Payload {
     pub len: usize,
