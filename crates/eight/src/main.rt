@@ -13,8 +13,8 @@
 // With no input one round is played each way, its name before its lines.
 #![tactic(auto)]
 
-use crate::units::{Tally, same};
-use crate::ways::Way;
+use crate::units::Tally;
+use crate::ways::{Sent, Way};
 use open_end::shown;
 use text::input::read_full;
 use text::output::Output;
@@ -28,35 +28,29 @@ const MOST_ROUNDS: u64 = 1000000;
 // A text of so many bytes fills the buffer that it is read to, and may go on.
 const TOO_LONG: usize = 4096;
 
+// Each way for one round, or one way for so many.
 #[derive(Clone, Copy)]
 enum Asked {
     Each,
     One { way: Way, rounds: u64 },
-    Wrong,
 }
 
 fn main(rt: HostRuntime) {
-    let mut text = [0u8; 4096];
+    let mut text = [0u8; TOO_LONG];
     let n = read_full(&rt, &mut text);
     let mut messages = [0; 8048];
     let mut frames = [0; 9408];
     let mut buffers = [0; 8192];
     units::compose(&mut messages);
     units::cut(&messages, &mut frames);
-    answer(&rt, read(&text[..n]), &messages, &frames, &mut buffers);
-}
-
-fn answer<R: Print + Eprint>(
-    rt: &R,
-    asked: Asked,
-    messages: &[u8],
-    frames: &[u8],
-    buffers: &mut [u8],
-) {
-    match asked {
-        Asked::Each => each(rt, messages, frames, buffers),
-        Asked::One { way, rounds } => tell(rt, ways::play(way, rounds, messages, frames, buffers)),
-        Asked::Wrong => wrong(rt),
+    let sent = Sent {
+        messages: &messages,
+        frames: &frames,
+    };
+    match read(&text[..n]) {
+        Some(Asked::Each) => each(&rt, sent, &mut buffers),
+        Some(Asked::One { way, rounds }) => tell(&rt, ways::play(way, rounds, sent, &mut buffers)),
+        None => wrong(&rt),
     }
 }
 
@@ -68,91 +62,55 @@ fn wrong<R: Print + Eprint>(rt: &R) {
 }
 
 // One round each way.
-fn each<R: Print + Eprint>(rt: &R, messages: &[u8], frames: &[u8], buffers: &mut [u8]) {
-    named(rt, b"single\n", Way::Single, messages, frames, buffers);
-    named(rt, b"table\n", Way::Table, messages, frames, buffers);
-    named(rt, b"calls\n", Way::Calls, messages, frames, buffers);
+fn each<R: Print + Eprint>(rt: &R, sent: Sent<'_>, buffers: &mut [u8]) {
+    named(rt, b"single\n", Way::Single, sent, buffers);
+    named(rt, b"table\n", Way::Table, sent, buffers);
+    named(rt, b"calls\n", Way::Calls, sent, buffers);
 }
 
 // One round of a way, its name before its lines.
-fn named<R: Print + Eprint>(
-    rt: &R,
-    name: &[u8],
-    way: Way,
-    messages: &[u8],
-    frames: &[u8],
-    buffers: &mut [u8],
-) {
+fn named<R: Print + Eprint>(rt: &R, name: &[u8], way: Way, sent: Sent<'_>, buffers: &mut [u8]) {
     Output::fresh().say(rt, name);
-    tell(rt, ways::play(way, 1, messages, frames, buffers));
+    tell(rt, ways::play(way, 1, sent, buffers));
 }
 
-fn read(text: &[u8]) -> Asked {
-    if text.len() == 0 {
-        return Asked::Each;
-    }
+// What a text asks for, and none for one that asks for nothing.
+fn read(text: &[u8]) -> Option<Asked> {
     if TOO_LONG <= text.len() {
-        return Asked::Wrong;
+        return None;
     }
-    let last = text.len() - 1;
-    if text[last] == b'\n' {
-        return read_line(reading::part(text, 0, last));
-    }
-    read_line(text)
+    let Some((last, line)) = text.split_last() else {
+        return Some(Asked::Each);
+    };
+    read_line(if *last == b'\n' { line } else { text })
 }
 
-fn read_line(line: &[u8]) -> Asked {
+fn read_line(line: &[u8]) -> Option<Asked> {
     let first = reading::word(line, 0);
     let second = reading::word(line, first.end);
     let more = reading::word(line, second.end);
     if more.start < line.len() {
-        return Asked::Wrong;
+        return None;
     }
-    choice(
-        reading::part(line, first.start, first.end),
-        rounds_of(reading::part(line, second.start, second.end)),
-    )
+    let way = way_of(reading::part(line, first.start, first.end))?;
+    let rounds = rounds_of(reading::part(line, second.start, second.end))?;
+    Some(Asked::One { way, rounds })
 }
 
-// The number of rounds, and 0 for what is no such number.
-fn rounds_of(digits: &[u8]) -> u64 {
+fn way_of(name: &[u8]) -> Option<Way> {
+    match name {
+        b"single" => Some(Way::Single),
+        b"table" => Some(Way::Table),
+        b"calls" => Some(Way::Calls),
+        _ => None,
+    }
+}
+
+fn rounds_of(digits: &[u8]) -> Option<u64> {
     match reading::decimal(digits) {
-        Ok(n) => at_most(n),
-        Err(_) => 0,
+        Ok(n @ 1..=MOST_ROUNDS) => Some(n),
+        _ => None,
     }
-}
-
-// A number of rounds, and 0 for too many.
-fn at_most(n: u64) -> u64 {
-    if MOST_ROUNDS < n {
-        return 0;
-    }
-    n
-}
-
-fn choice(name: &[u8], rounds: u64) -> Asked {
-    if rounds == 0 {
-        return Asked::Wrong;
-    }
-    if same(name, b"single") {
-        return Asked::One {
-            way: Way::Single,
-            rounds,
-        };
-    }
-    if same(name, b"table") {
-        return Asked::One {
-            way: Way::Table,
-            rounds,
-        };
-    }
-    if same(name, b"calls") {
-        return Asked::One {
-            way: Way::Calls,
-            rounds,
-        };
-    }
-    Asked::Wrong
 }
 
 fn tell<R: Print + Eprint>(rt: &R, tally: Tally) {

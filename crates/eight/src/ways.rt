@@ -17,6 +17,13 @@ pub(crate) enum Way {
     Calls,
 }
 
+// What the units send: the message of each, and the frames that they are cut into.
+#[derive(Clone, Copy)]
+pub(crate) struct Sent<'a> {
+    pub(crate) messages: &'a [u8],
+    pub(crate) frames: &'a [u8],
+}
+
 // A record, and what came and went.
 #[derive(Clone, Copy)]
 struct One {
@@ -31,43 +38,36 @@ struct All {
     tally: Tally,
 }
 
-pub(crate) fn play(
-    way: Way,
-    rounds: u64,
-    messages: &[u8],
-    frames: &[u8],
-    buffers: &mut [u8],
-) -> Tally {
+pub(crate) fn play(way: Way, rounds: u64, sent: Sent<'_>, buffers: &mut [u8]) -> Tally {
     match way {
-        Way::Single => apart(rounds, messages, frames, buffers),
-        Way::Table => together::<InPlace>(rounds, messages, frames, buffers),
-        Way::Calls => together::<ByCalls>(rounds, messages, frames, buffers),
+        Way::Single => apart(rounds, sent, buffers),
+        Way::Table => together::<InPlace>(rounds, sent, buffers),
+        Way::Calls => together::<ByCalls>(rounds, sent, buffers),
     }
 }
 
 // One unit after another, the record at work being lent all of the buffers.
-fn apart(rounds: u64, messages: &[u8], frames: &[u8], buffer: &mut [u8]) -> Tally {
+fn apart(rounds: u64, sent: Sent<'_>, buffer: &mut [u8]) -> Tally {
     let mut tally = Tally::none();
     for unit in 0..UNITS {
-        tally = exchange(tally, unit, rounds, messages, frames, buffer);
+        tally = exchange(tally, unit, rounds, sent, buffer);
     }
     tally
 }
 
 // All that a unit and we have to say: the opening, and then its message, over and over.
-fn exchange(
-    tally: Tally,
-    unit: usize,
-    rounds: u64,
-    messages: &[u8],
-    frames: &[u8],
-    buffer: &mut [u8],
-) -> Tally {
+fn exchange(tally: Tally, unit: usize, rounds: u64, sent: Sent<'_>, buffer: &mut [u8]) -> Tally {
     let connection = Connection::closed().open(settings_for(unit)).left;
-    let mut one = alone(One { connection, tally }, unit, 0..OPENING, frames, buffer);
+    let mut one = alone(
+        One { connection, tally },
+        unit,
+        0..OPENING,
+        sent.frames,
+        buffer,
+    );
     for _ in 0..rounds {
-        one = alone(one, unit, OPENING..STEPS, frames, buffer);
-        one = taken(one, unit, messages, buffer);
+        one = alone(one, unit, OPENING..STEPS, sent.frames, buffer);
+        one = taken(one, unit, sent.messages, buffer);
     }
     one.tally
 }
@@ -105,11 +105,11 @@ fn taken(begun: One, unit: usize, messages: &[u8], buffer: &[u8]) -> One {
 }
 
 // The units in turns, their records in a table, driven one way or the other.
-fn together<D: Driven>(rounds: u64, messages: &[u8], frames: &[u8], buffers: &mut [u8]) -> Tally {
-    let mut all = D::turns(opening(), 0..UNITS * OPENING, frames, buffers);
+fn together<D: Driven>(rounds: u64, sent: Sent<'_>, buffers: &mut [u8]) -> Tally {
+    let mut all = D::turns(opening(), 0..UNITS * OPENING, sent.frames, buffers);
     for _ in 0..rounds {
-        all = D::turns(all, UNITS * OPENING..UNITS * STEPS, frames, buffers);
-        all = all_taken::<D>(all, messages, buffers);
+        all = D::turns(all, UNITS * OPENING..UNITS * STEPS, sent.frames, buffers);
+        all = all_taken::<D>(all, sent.messages, buffers);
     }
     all.tally
 }
