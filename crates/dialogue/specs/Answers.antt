@@ -1,5 +1,5 @@
 -- Answers as lines: an answer's number and, behind it, what it carries, with one blank between.
-use Rattle.std.specs.Prelude.{ℕ, ◌%◌, Bool, false, List, [], ◌∷◌, ◌++◌, Option, Some, None, take, ◌==◌, if◌then◌else◌}
+use Rattle.std.specs.Prelude.{ℕ, ◌%◌, Bool, false, List, [], ◌∷◌, ◌++◌, Option, Some, None, take, ◌==◌}
 use Rattle.text.specs.Written.{if_given, pair_of, pairs_of, id_of, flags_of, decimal_of}
 use Rattle.open_end.specs.OpenEnd.{no_frame}
 use Rattle.open_end.specs.declared.Frame.{Frame}

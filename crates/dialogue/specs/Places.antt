@@ -1,5 +1,5 @@
 -- What a line asks a table for: a call, and in front of it the place that it names, if it names one.
-use Rattle.std.specs.Prelude.{ℕ, Bool, true, false, not, List, Option, Some, None, Result, Ok, Err, length, nat_lt, is_some, if◌then◌else◌}
+use Rattle.std.specs.Prelude.{ℕ, Bool, true, not, List, Option, Some, None, Result, Ok, Err, length, nat_lt, is_some, if◌then◌else◌}
 use Rattle.text.specs.Numbers.{number_of}
 use Rattle.text.specs.declared.reading.NumberError.{NumberError}
 use Rattle.text.specs.declared.reading.NumberError.TheVariants.{TooLarge, Bad as NoNumber}
