@@ -5,7 +5,7 @@ ghost use Rattle.dialogue.specs.Words.{word_at, behind_word, only_number, id_rea
 
 use crate::words::{behind_word, can_id, letters, octets, only_number, word};
 
-// What a line asks for. Bytes that it gives stand elsewhere, and here is their count.
+// What a line asks for. Bytes that it gives stand at the start of a lent buffer, and here is their count: `call_of` says it so.
 #[derive(Clone, Copy)]
 pub enum Call {
     // A blank line or a comment.

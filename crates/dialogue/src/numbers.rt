@@ -6,7 +6,7 @@ use settings::Settings;
 use text::reading;
 use text::reading::NumberError;
 
-// Numbers that are read one after another.
+// Numbers that are read one after another. The flags are no error of `value`: they tell of every word so far, it of the last.
 #[derive(Clone, Copy)]
 pub struct Numbers {
     // The place behind the last word.

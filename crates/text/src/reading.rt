@@ -186,14 +186,6 @@ fn belongs(c: u8, blank: bool) -> bool
 pub fn part(s: &[u8], start: usize, end: usize) -> &[u8]
     ensures { result.now ≡ take (end - start) (drop start s.now) }
 {
-    if s.len() < start {
-        return &s[..0];
-    }
-    if end < start {
-        return &s[..0];
-    }
-    if s.len() < end {
-        return &s[start..];
-    }
-    &s[start..end]
+    let end = end.min(s.len());
+    if end < start { &[] } else { &s[start..end] }
 }

@@ -106,13 +106,10 @@ fn digits_of(n: u64, digits: &mut [u8; 20]) -> usize
 fn digit_count(n: u64) -> usize
     ensures { IsDigitCount n result }
 {
-    let mut k = 1;
-    let mut rest = n / 10;
-    while rest > 0 {
-        rest /= 10;
-        k += 1;
+    match n.checked_ilog10() {
+        Some(k) => k as usize + 1,
+        None => 1,
     }
-    k
 }
 
 // A number's last k digits to the start of lent ones.
