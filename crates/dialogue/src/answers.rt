@@ -92,9 +92,8 @@ fn put_place(text: &mut [u8], at: usize, place: u8) -> usize
 fn number(text: &mut [u8], at: usize, said: Said) -> usize
     ensures { Writes text.old at (said_of said) text.new result }
 {
-    let opcode = [said.opcode];
     let at = writing::decimal(text, at, said.number as u64);
-    let at = pairs_if(text, at, said.number == 11, &opcode);
+    let at = pairs_if(text, at, said.number == 11, &[said.opcode]);
     writing::bytes_if(text, at, said.done, b" done")
 }
 
@@ -111,9 +110,10 @@ fn pairs_if(text: &mut [u8], at: usize, given: bool, s: &[u8]) -> usize
     ensures { Writes text.old at (if_given given (pairs_of s.now)) text.new result }
 {
     if given {
-        return writing::pairs(text, at, s);
+        writing::pairs(text, at, s)
+    } else {
+        at
     }
-    at
 }
 
 fn frame_if(text: &mut [u8], at: usize, frame: Option<Frame>) -> usize
@@ -140,14 +140,10 @@ fn put_frame(text: &mut [u8], at: usize, frame: Frame) -> usize
 pub(crate) fn each(text: &mut [u8], said: [Said; 8]) -> usize
     ensures { Writes text.old 0 (each_of said) text.new result }
 {
-    let first = said[0];
-    let mut at = number(text, 0, first);
-    let mut i = 1;
-    while i < 8 {
-        let next = said[i];
+    let mut at = number(text, 0, said[0]);
+    for next in &said[1..] {
         at = writing::byte(text, at, b' ');
-        at = number(text, at, next);
-        i += 1;
+        at = number(text, at, *next);
     }
     writing::byte(text, at, b'\n')
 }
@@ -178,10 +174,12 @@ pub(crate) fn error(text: &mut [u8], line: u64) -> usize
 pub(crate) fn contents(text: &mut [u8], bytes: &[u8]) -> usize
     ensures { Writes text.old 0 (contents_of bytes.now) text.new result }
 {
-    if bytes.len() == 0 {
-        return writing::byte(text, 0, b'\n');
+    match bytes {
+        [] => writing::byte(text, 0, b'\n'),
+        [first, rest @ ..] => {
+            let at = writing::pair(text, 0, *first);
+            let at = writing::pairs(text, at, rest);
+            writing::byte(text, at, b'\n')
+        }
     }
-    let at = writing::pair(text, 0, bytes[0]);
-    let at = writing::pairs(text, at, &bytes[1..]);
-    writing::byte(text, at, b'\n')
 }

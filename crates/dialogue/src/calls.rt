@@ -5,7 +5,7 @@ ghost use Rattle.dialogue.specs.Words.{word_at, behind_word, only_number, id_rea
 
 use crate::words::{behind_word, can_id, letters, octets, only_number, word};
 
-// What a line asks for. Bytes that it gives stand elsewhere, and here is their count.
+// What a line asks for. Bytes that it gives stand at the start of a lent buffer, and here is their count: `call_of` says it so.
 #[derive(Clone, Copy)]
 pub enum Call {
     // A blank line or a comment.
@@ -32,7 +32,8 @@ pub(crate) const LONGEST: usize = 16000;
 // The most bytes that can be lent.
 const MOST_ROOM: u64 = 4096;
 
-// The names of the calls, as the numbers that their letters make.
+// The names of the calls, as the numbers that their letters make. No byte strings: `call_of` compares words as these numbers, by
+// which NULs before a name change nothing, and `Call::Other` hands such a number on.
 const NEW: u64 = 0x6E6577;
 
 const FRAME: u64 = 0x6672616D65;
@@ -60,19 +61,13 @@ pub fn read_call(line: &[u8], bytes: &mut [u8]) -> Call
     if LONGEST < line.len() {
         return Call::Wrong;
     }
-    if line.len() == 0 {
-        return Call::Nothing;
-    }
-    if line[0] == b'#' {
-        return Call::Nothing;
-    }
     let first = word(line);
-    if first.len() == 0 {
+    if first.is_empty() || line[0] == b'#' {
         return Call::Nothing;
     }
     let name = letters(first);
     let words = behind_word(line);
-    if words.len() == 0 {
+    if words.is_empty() {
         return alone(name);
     }
     followed(name, words, bytes)
@@ -83,22 +78,14 @@ pub fn read_call(line: &[u8], bytes: &mut [u8]) -> Call
 fn alone(name: u64) -> Call
     ensures { result ≡ alone_of name }
 {
-    if name == NEW {
-        return Call::New;
+    match name {
+        NEW => Call::New,
+        DUE => Call::Due,
+        TAKE => Call::Take,
+        CLOSE => Call::Close,
+        BUFFER => Call::Buffer,
+        _ => Call::Other(name),
     }
-    if name == DUE {
-        return Call::Due;
-    }
-    if name == TAKE {
-        return Call::Take;
-    }
-    if name == CLOSE {
-        return Call::Close;
-    }
-    if name == BUFFER {
-        return Call::Buffer;
-    }
-    Call::Other(name)
 }
 
 // A call with further words.
@@ -107,22 +94,14 @@ fn followed(name: u64, words: &[u8], bytes: &mut [u8]) -> Call
     ensures value { result ≡ followed_of (length bytes.old) name words.now }
     ensures bytes_after { bytes.new ≡ followed_into bytes.old name words.now }
 {
-    if name == TIME {
-        return time(words);
+    match name {
+        TIME => time(words),
+        ROOM => room(words),
+        FRAME => frame(words, bytes),
+        DUE => due(words, bytes),
+        SEND => send(words, bytes),
+        _ => Call::Other(name),
     }
-    if name == ROOM {
-        return room(words);
-    }
-    if name == FRAME {
-        return frame(words, bytes);
-    }
-    if name == DUE {
-        return due(words, bytes);
-    }
-    if name == SEND {
-        return send(words, bytes);
-    }
-    Call::Other(name)
 }
 
 #[tactic(auto, using(laws::proofs::Branches::branches), unfolding(crate::specs::Calls::time_of))]

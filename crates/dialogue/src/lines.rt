@@ -19,9 +19,7 @@ pub fn read_line<R: Input>(rt: &R, line: &mut [u8]) -> Line
 {
     let mut input = rt.reader();
     let mut fill = 0;
-    let mut turns = u64::MAX;
-    while 0 < turns {
-        turns -= 1;
+    for _ in 0..u64::MAX {
         let Some(b) = read_character(&mut input) else {
             return Line { fill, ended: true };
         };
@@ -44,10 +42,7 @@ fn without_return(line: &[u8], fill: usize) -> usize
         return 0;
     }
     let last = fill - 1;
-    if line.len() <= last {
-        return fill;
-    }
-    if line[last] == b'\r' {
+    if last < line.len() && line[last] == b'\r' {
         return last;
     }
     fill

@@ -1,12 +1,12 @@
 // Settings as words, one decimal number each. A number too large for its setting is out of range like any other.
 ghost use Rattle.std.specs.Prelude.{◌≡◌};
-ghost use Rattle.dialogue.specs.Numbers.{no_numbers, with_number, with_beyond, next_number, are_all, out_of_range_if, given_by, opening_with, opening_of};
+ghost use Rattle.dialogue.specs.Numbers.{no_numbers, with_number, next_number, are_all, out_of_range_if, given_by, opening_with, opening_of};
 
 use settings::Settings;
 use text::reading;
 use text::reading::NumberError;
 
-// Numbers that are read one after another.
+// Numbers that are read one after another. The flags are no error of `value`: they tell of every word so far, it of the last.
 #[derive(Clone, Copy)]
 pub struct Numbers {
     // The place behind the last word.
@@ -56,35 +56,23 @@ impl Numbers {
         ensures { result ≡ with_number self at most number }
     {
         match number {
-            Ok(n) => {
-                if most < n {
-                    return self.with_beyond(at);
-                }
-                Numbers {
-                    at,
-                    bad: self.bad,
-                    beyond: self.beyond,
-                    value: n,
-                }
-            }
-            Err(NumberError::TooLarge) => self.with_beyond(at),
+            Ok(n) if n <= most => Numbers {
+                at,
+                value: n,
+                ..self
+            },
+            Ok(_) | Err(NumberError::TooLarge) => Numbers {
+                at,
+                beyond: true,
+                value: 0,
+                ..self
+            },
             Err(NumberError::Bad) => Numbers {
                 at,
                 bad: true,
-                beyond: self.beyond,
                 value: 0,
+                ..self
             },
-        }
-    }
-
-    fn with_beyond(self, at: usize) -> Numbers
-        ensures { result ≡ with_beyond self at }
-    {
-        Numbers {
-            at,
-            bad: self.bad,
-            beyond: true,
-            value: 0,
         }
     }
 
@@ -147,13 +135,11 @@ pub fn read_opening(words: &[u8]) -> Option<Settings>
 pub(crate) fn opening_with(defaults: Settings, words: &[u8]) -> Option<Settings>
     ensures { result ≡ opening_with defaults words.now }
 {
-    if words.len() == 0 {
+    if words.is_empty() {
         return Some(defaults);
     }
-    let given = settings(words);
-    let settings = given.settings;
-    let read = given.numbers;
-    if read.are_all(words) {
+    let Given { settings, numbers } = settings(words);
+    if numbers.are_all(words) {
         return Some(settings);
     }
     None

@@ -66,13 +66,12 @@ fn asked_with(place: Result<u64, NumberError>, call: Call) -> Asked
 fn asking(place: Option<u8>, call: Call) -> Asked
     ensures { result ≡ asking place call }
 {
-    if suits(place.is_some(), call) {
-        return Asked { place, call };
-    }
-    Asked {
-        place,
-        call: Call::Wrong,
-    }
+    let call = if suits(place.is_some(), call) {
+        call
+    } else {
+        Call::Wrong
+    };
+    Asked { place, call }
 }
 
 // Whether a call may stand behind a place, or with none.
@@ -81,18 +80,14 @@ fn suits(named: bool, call: Call) -> bool
     ensures { result ≡ suits named call }
 {
     match call {
-        Call::Nothing => !named,
-        Call::Wrong => true,
-        Call::New => !named,
-        Call::Frame { id: _, count: _ } => !named,
-        Call::Time(_) => true,
-        Call::Due => named,
-        Call::DueOf(_) => named,
-        Call::Send(_) => named,
-        Call::Take => named,
-        Call::Close => named,
-        Call::Room(_) => named,
-        Call::Buffer => named,
-        Call::Other(_) => !named,
+        Call::Wrong | Call::Time(_) => true,
+        Call::Nothing | Call::New | Call::Frame { .. } | Call::Other(_) => !named,
+        Call::Due
+        | Call::DueOf(_)
+        | Call::Send(_)
+        | Call::Take
+        | Call::Close
+        | Call::Room(_)
+        | Call::Buffer => named,
     }
 }

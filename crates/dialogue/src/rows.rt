@@ -16,7 +16,8 @@ pub struct Opening16 {
     pub settings: Settings,
 }
 
-// The names of the rows, as the numbers that their letters make; high and low are infotainment's.
+// The names of the rows, as the numbers that their letters make; high and low are infotainment's. Numbers as the calls' names
+// are: `row_of` takes them so.
 const DRIVE: u64 = 0x6472697665;
 
 const COMFORT: u64 = 0x636F6D666F7274;
@@ -40,19 +41,13 @@ pub fn read_opening_16(words: &[u8]) -> Option<Opening16>
 fn row_of(name: u64) -> Option<Profile>
     ensures { result ≡ row_of name }
 {
-    if name == DRIVE {
-        return Some(Profile::drive());
+    match name {
+        DRIVE => Some(Profile::drive()),
+        COMFORT => Some(Profile::comfort()),
+        HIGH => Some(Profile::high()),
+        LOW => Some(Profile::low()),
+        _ => None,
     }
-    if name == COMFORT {
-        return Some(Profile::comfort());
-    }
-    if name == HIGH {
-        return Some(Profile::high());
-    }
-    if name == LOW {
-        return Some(Profile::low());
-    }
-    None
 }
 
 // The settings of an opening in a row.

@@ -57,11 +57,7 @@ impl Session {
     pub fn turns_left(self, turns: u64) -> u64
         ensures { result ≡ turns_left self turns }
     {
-        if self.ended {
-            return 0;
-        }
-        let output = self.output;
-        if output.failed {
+        if self.ended || self.output.failed {
             return 0;
         }
         turns
@@ -167,9 +163,7 @@ impl Session {
     fn say<R: Print + Eprint>(mut self, rt: &R, text: &[u8]) -> Session
         ensures { Says self text.now result }
     {
-        let output = self.output;
-        let next = output.say(rt, text);
-        self.output = next;
+        self.output = self.output.say(rt, text);
         self
     }
 }
@@ -178,9 +172,5 @@ impl Session {
 pub fn clear(buffer: &mut [u8])
     ensures { buffer.new ≡ replicate (length buffer.old) 0 }
 {
-    let mut i = 0;
-    while i < buffer.len() {
-        buffer[i] = 0;
-        i += 1;
-    }
+    buffer.fill(0);
 }

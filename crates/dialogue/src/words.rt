@@ -30,19 +30,11 @@ pub(crate) fn letters(word: &[u8]) -> u64
     if 8 < word.len() {
         return 0;
     }
-    let mut n: u64 = 0;
-    let mut i = 0;
-    while i < word.len() {
-        n = 256 * (n % 72057594037927936) + wide(word[i]);
-        i += 1;
+    let mut n = 0;
+    for c in word {
+        n = 256 * n + u64::from(*c);
     }
     n
-}
-
-fn wide(b: u8) -> u64
-    ensures { result ≡ b }
-{
-    b as u64
 }
 
 // The only word, and an empty one where there are more.
@@ -50,11 +42,10 @@ fn wide(b: u8) -> u64
 fn only_word(words: &[u8]) -> &[u8]
     ensures { result.now ≡ only_word words.now }
 {
-    let more = behind_word(words);
-    if more.len() == 0 {
+    if behind_word(words).is_empty() {
         return word(words);
     }
-    &words[..0]
+    &[]
 }
 
 // A decimal number that is the only word.
@@ -104,13 +95,8 @@ pub(crate) fn octets(words: &[u8], bytes: &mut [u8]) -> Result<usize, PairsError
 fn no_octets(words: &[u8]) -> Result<usize, PairsError>
     ensures { result ≡ dash_read words.now }
 {
-    let more = behind_word(words);
-    if more.len() != 0 {
-        return Err(PairsError::Bad);
+    if behind_word(words).is_empty() && word(words).len() == 1 {
+        return Ok(0);
     }
-    let dash = word(words);
-    if dash.len() != 1 {
-        return Err(PairsError::Bad);
-    }
-    Ok(0)
+    Err(PairsError::Bad)
 }

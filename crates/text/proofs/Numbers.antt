@@ -8,9 +8,9 @@ use native.Mathlib.Numerals.{add-one}
 use native.Mathlib.Omega.{arith}
 use mathlib.Core.Bool.{true, false}
 use mathlib.Core.List.{List, [], ◌∷◌}
-use mathlib.Core.Path.{◌≡◌, refl, sym, ◌∙◌}
-use lib.ListN.{length, drop, get_or, drop_of_length-le}
-use lib.Seq.{drop-cons}
+use mathlib.Core.Path.{◌≡◌, refl, sym, ap, ◌∙◌}
+use lib.ListN.{length, take, drop, get_or, drop_of_length-le, length-drop}
+use lib.Seq.{drop-cons, take_all}
 use borrow.Author.Tests.{lt-ltb, le-ltb, ltb-true, ltb-false}
 use Rattle.std.specs.Prelude.{Result, Ok, Err}
 use Rattle.text.specs.Numbers.{digit_of, is_digit, number_from, number_of}
@@ -53,8 +53,8 @@ module _ (base n : ℕ) (s : List ℕ) (i d : ℕ) (r : Result ℕ NumberError) 
   unfolding number_from
   breaks h = sym (e ∙ rw (drop-cons s i 0 i<l) (let k : base ≤ digit_of (get_or s i 0) = omega arith in rw (le-ltb _ base k)))
 
-  pub grows : 1 ≤ base → d < base → (18446744073709551615 - d) / base < n → (q : Result ℕ NumberError) → q ≡ number_from base (2 ^ 64) (drop (i + 1) s) → q ≡ r
-  grows b h t q k = k ∙ sym (goes_on h ∙ same base _ _ _ b (omega (arith, (div-lt_iff_lt-mul b).0 t)) (omega arith))
+  pub grows : 1 ≤ base → d < base → (18446744073709551615 - d) / base < n → (q : Result ℕ NumberError) → q ≡ number_from base (2 ^ 64) (take (length s - (i + 1)) (drop (i + 1) s)) → q ≡ r
+  grows b h t q k = k ∙ ap (number_from base (2 ^ 64)) (take_all (length s - (i + 1)) (drop (i + 1) s) (omega (arith, length-drop (i + 1) s))) ∙ sym (goes_on h ∙ same base _ _ _ b (omega (arith, (div-lt_iff_lt-mul b).0 t)) (omega arith))
 
 module _ (base n : ℕ) (s : List ℕ) (i : ℕ) (r : Result ℕ NumberError) (e : r ≡ number_from base n (drop i s)) (over : length s ≤ i) where
   pub fits : n < 2 ^ 64 → Ok n ≡ r

@@ -14,7 +14,8 @@ pub returns-then-base-d : goal.returns-then-base-d
 returns-then-base-d c = search breaks
 
 pub returns-then-d-base : goal.returns-then-d-base
-returns-then-d-base c = search grows
+returns-then-d-base c =
+    grows _ _ _ _ _ _ c.loop-i.invariant.0 c.loop-i-test.true c.value-d.ensures c.requires c.if-base-d.false c.if-d-base.true _ c.too_large.ensures
 
 pub loop-i-preserved : goal.loop-i-preserved
 loop-i-preserved c = (search goes_on, more-fits _ _ _ (search rules) (search rules) (search rules))
