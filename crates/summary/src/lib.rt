@@ -20,7 +20,7 @@ pub enum Class {
 }
 
 // The frames of each class.
-#[derive(Clone, Copy)]
+#[derive(Clone, Copy, Default)]
 pub struct Summary {
     pub used: u32,
     pub out_of_place: u32,
@@ -49,13 +49,11 @@ pub fn class_of(fate: Fate) -> Class
 }
 
 // A counter with so many frames more. At its largest value it stays there.
+#[tactic(auto, using(laws::proofs::Branches::branches), unfolding(crate::specs::Counting::grown))]
 pub fn grown(count: u32, frames: u32) -> u32
     ensures { result ≡ grown count frames }
 {
-    if frames <= u32::MAX - count {
-        return count + frames;
-    }
-    u32::MAX
+    count.saturating_add(frames)
 }
 
 impl Summary {
@@ -63,51 +61,24 @@ impl Summary {
     pub fn empty() -> Summary
         ensures { result ≡ empty }
     {
-        Summary {
-            used: 0,
-            out_of_place: 0,
-            broken: 0,
-            thrown_away: 0,
-            refused: 0,
-            control: 0,
-            other_ids: 0,
-        }
+        Summary::default()
     }
 
     // With so many frames of a class more.
+    #[tactic(auto, unfolding(crate::specs::Counting::absorbed))]
     pub fn with(mut self, class: Class, frames: u32) -> Summary
         ensures { result ≡ absorbed self class frames }
     {
         match class {
-            Class::Used => {
-                self.used = grown(self.used, frames);
-                self
-            }
-            Class::OutOfPlace => {
-                self.out_of_place = grown(self.out_of_place, frames);
-                self
-            }
-            Class::Broken => {
-                self.broken = grown(self.broken, frames);
-                self
-            }
-            Class::ThrownAway => {
-                self.thrown_away = grown(self.thrown_away, frames);
-                self
-            }
-            Class::Refused => {
-                self.refused = grown(self.refused, frames);
-                self
-            }
-            Class::Control => {
-                self.control = grown(self.control, frames);
-                self
-            }
-            Class::OtherIds => {
-                self.other_ids = grown(self.other_ids, frames);
-                self
-            }
+            Class::Used => self.used = grown(self.used, frames),
+            Class::OutOfPlace => self.out_of_place = grown(self.out_of_place, frames),
+            Class::Broken => self.broken = grown(self.broken, frames),
+            Class::ThrownAway => self.thrown_away = grown(self.thrown_away, frames),
+            Class::Refused => self.refused = grown(self.refused, frames),
+            Class::Control => self.control = grown(self.control, frames),
+            Class::OtherIds => self.other_ids = grown(self.other_ids, frames),
         }
+        self
     }
 
     // The frames of all classes.
@@ -128,6 +99,7 @@ pub fn absorb(summary: &mut Summary, class: Class, frames: u32)
 }
 
 // The frames that were met, class by class.
+#[tactic(auto, unfolding(crate::specs::Counting::absorbed_all))]
 pub fn absorb_all(summary: &mut Summary, met: Summary)
     ensures { summary.new ≡ absorbed_all summary.old met }
 {
