@@ -13,13 +13,14 @@
 // With no input one round is played each way, its name before its lines.
 #![tactic(auto)]
 
-use crate::units::{Tally, same};
+use crate::units::Tally;
 use crate::ways::Way;
-use open_end::shown;
+use std::fmt::Write;
 use text::input::read_full;
+use text::line::Line;
 use text::output::Output;
+use text::reading;
 use text::reading::Number;
-use text::{reading, writing};
 
 mod units;
 mod ways;
@@ -135,19 +136,19 @@ fn choice(name: &[u8], rounds: u64) -> Asked {
     if rounds == 0 {
         return Asked::Wrong;
     }
-    if same(name, b"single") {
+    if name == b"single".as_slice() {
         return Asked::One {
             way: Way::Single,
             rounds,
         };
     }
-    if same(name, b"table") {
+    if name == b"table".as_slice() {
         return Asked::One {
             way: Way::Table,
             rounds,
         };
     }
-    if same(name, b"calls") {
+    if name == b"calls".as_slice() {
         return Asked::One {
             way: Way::Calls,
             rounds,
@@ -161,20 +162,17 @@ fn tell<R: Print + Eprint>(rt: &R, tally: Tally) {
         Output::fresh().say(rt, b"error: a message was not handed out as it was sent\n");
         return;
     }
-    let mut text = [0; 256];
-    let end = report(&mut text, tally);
-    Output::fresh().say(rt, shown(&text, end));
-}
-
-fn report(text: &mut [u8], tally: Tally) -> usize {
-    let at = line(text, 0, b"messages ", tally.messages);
-    let at = line(text, at, b"frames ", tally.frames);
-    let at = line(text, at, b"bytes ", tally.bytes);
-    line(text, at, b"checksum ", tally.checksum)
-}
-
-fn line(text: &mut [u8], at: usize, name: &[u8], n: u64) -> usize {
-    let at = writing::bytes(text, at, name);
-    let at = writing::decimal(text, at, n);
-    writing::byte(text, at, b'\n')
+    let Tally {
+        messages,
+        frames,
+        bytes,
+        checksum,
+        ..
+    } = tally;
+    let mut text = Line::<256>::default();
+    let _ = writeln!(
+        text,
+        "messages {messages}\nframes {frames}\nbytes {bytes}\nchecksum {checksum}"
+    );
+    Output::fresh().say(rt, text.text());
 }

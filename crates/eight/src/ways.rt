@@ -45,7 +45,7 @@ pub(crate) fn play(
 
 // One unit after another, the record at work being lent all of the buffers.
 fn apart(rounds: u64, messages: &[u8], frames: &[u8], buffer: &mut [u8]) -> Tally {
-    let mut tally = Tally::none();
+    let mut tally = Tally::default();
     let mut unit = 0;
     while unit < UNITS {
         tally = exchange(tally, unit, rounds, messages, frames, buffer);
@@ -144,7 +144,7 @@ fn opening() -> All {
     }
     All {
         table,
-        tally: Tally::none(),
+        tally: Tally::default(),
     }
 }
 
