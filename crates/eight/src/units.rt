@@ -7,8 +7,9 @@
 use open_end::{Frame, shown};
 use opening::write_reply;
 use settings::Settings;
+use settings::agreed::own_fields;
 use telegram::cutting;
-use telegram::kinds::{Parameters, write_accept};
+use telegram::kinds::write_accept;
 use telegram::payload::Payload;
 use text::reading;
 
@@ -105,19 +106,9 @@ fn written(messages: &[u8], unit: usize, step: usize) -> Payload {
             bytes: [0; 8],
         },
         1 => write_reply(0xD0, 0x300 + nth, 0x740 + nth),
-        2 => accept(),
+        2 => write_accept(own_fields(settings_for(unit))),
         _ => cutting::frame(message_of(messages, unit), BLOCK, 0, place_of(step)),
     }
-}
-
-// An A1 with our own times.
-fn accept() -> Payload {
-    let settings = Settings::DEFAULT;
-    write_accept(Parameters {
-        block: BLOCK,
-        t1: settings.t1,
-        t3: settings.t3,
-    })
 }
 
 // Where in its message the frame of a step stands.

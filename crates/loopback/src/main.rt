@@ -15,12 +15,10 @@ ghost use Rattle.connection.specs.Record.{requesting, agreeing, opened};
 
 use connection::{Connection, OPEN};
 use open_end::{OpenEnd, shown};
-use sender::Terms;
 use settings::Settings;
+use settings::agreed::{agree, own_fields};
 use std::fmt::Write;
 use std::mem;
-use telegram::kinds::Parameters;
-use telegram::time::tenths;
 use text::input::read_full;
 use text::line::Line;
 use text::output::Output;
@@ -101,7 +99,7 @@ fn read_rounds(text: &[u8]) -> Option<u64> {
         return Some(1);
     }
     match reading::decimal(text.strip_suffix(b"\n").unwrap_or(text)) {
-        Number::Value(n) if 1 <= n && n <= MOST_ROUNDS => Some(n),
+        Number::Value(n @ 1..=MOST_ROUNDS) => Some(n),
         _ => None,
     }
 }
@@ -214,26 +212,7 @@ fn opened(receive: u16, transmit: u16) -> Connection
     Connection {
         phase: OPEN,
         settings,
-        end: OpenEnd::fresh(
-            transmit,
-            receive,
-            channel::Parameters {
-                terms: Terms {
-                    t1: tenths(settings.t1),
-                    t3: tenths(settings.t3),
-                    t_wait: settings.t_wait as u32,
-                    block: settings.block,
-                    repeats: settings.mntb,
-                },
-                interval: settings.t_ct as u32,
-                allowed: settings.mnct,
-                own: Parameters {
-                    block: settings.block,
-                    t1: settings.t1,
-                    t3: settings.t3,
-                },
-            },
-        ),
+        end: OpenEnd::fresh(transmit, receive, agree(settings, own_fields(settings))),
         ..Connection::closed()
     }
 }
