@@ -7,7 +7,7 @@ use crate::queue::Queue;
 use channel::{Answer, Answered, Channel, Parameters};
 use sender::{Passing, Terms};
 use std::{array, fmt};
-use telegram::cutting::{Message, NONE};
+use telegram::cutting::Message;
 use telegram::kinds;
 use telegram::payload::Payload;
 use text::reading;
@@ -147,7 +147,7 @@ impl Call {
                 this.take();
             }
             Call::Frame(fate) => {
-                let waited = this.shown();
+                let waited = this.shown().is_some();
                 this.hear(other.link.head(), fate);
                 other.complete(waited, this);
                 other.meet(fate);
@@ -380,12 +380,12 @@ impl End {
         total
     }
 
-    // The message that a take would show; length 0 if it would show none.
-    fn shown(&self) -> Message {
+    // The message that a take would show.
+    fn shown(&self) -> Option<Message> {
         if !self.live {
-            return NONE;
+            return None;
         }
-        self.channel.receiver.take(ROOM).message.unwrap_or(NONE)
+        self.channel.receiver.take(ROOM).message.ok()
     }
 
     // The next message is offered.
@@ -480,10 +480,9 @@ impl End {
 
     // What a take at the other end shows, before it is made.
     fn hand_out(&mut self, to: &End) {
-        let message = to.shown();
-        if message.length == 0 {
+        let Some(message) = to.shown() else {
             return;
-        }
+        };
         if self.is_next(to, message, self.sent.handed) {
             count(&mut self.sent.handed);
         } else {
@@ -492,11 +491,13 @@ impl End {
     }
 
     // What an arrival at the other end made wait there, if nothing did before.
-    fn complete(&mut self, waited: Message, to: &End) {
-        let message = to.shown();
-        if waited.length != 0 || message.length == 0 {
+    fn complete(&mut self, waited: bool, to: &End) {
+        if waited {
             return;
         }
+        let Some(message) = to.shown() else {
+            return;
+        };
         if self.is_next(to, message, self.sent.complete) {
             count(&mut self.sent.complete);
         } else {
@@ -522,11 +523,10 @@ impl End {
         if !to.live {
             return None;
         }
-        let message = to.shown();
-        let holds = if self.sent.complete == self.sent.handed {
-            message.length == 0
-        } else {
-            self.is_next(to, message, self.sent.handed)
+        let waits = self.sent.handed != self.sent.complete;
+        let holds = match to.shown() {
+            Some(message) => waits && self.is_next(to, message, self.sent.handed),
+            None => !waits,
         };
         if holds { None } else { Some(Claim::Taken) }
     }

@@ -15,10 +15,11 @@
 
 use crate::units::Tally;
 use crate::ways::{Sent, Way};
-use open_end::shown;
+use std::fmt::Write;
 use text::input::read_full;
+use text::line::Line;
 use text::output::Output;
-use text::{reading, writing};
+use text::reading;
 
 mod units;
 mod ways;
@@ -118,20 +119,17 @@ fn tell<R: Print + Eprint>(rt: &R, tally: Tally) {
         Output::fresh().say(rt, b"error: a message was not handed out as it was sent\n");
         return;
     }
-    let mut text = [0; 256];
-    let end = report(&mut text, tally);
-    Output::fresh().say(rt, shown(&text, end));
-}
-
-fn report(text: &mut [u8], tally: Tally) -> usize {
-    let at = line(text, 0, b"messages ", tally.messages);
-    let at = line(text, at, b"frames ", tally.frames);
-    let at = line(text, at, b"bytes ", tally.bytes);
-    line(text, at, b"checksum ", tally.checksum)
-}
-
-fn line(text: &mut [u8], at: usize, name: &[u8], n: u64) -> usize {
-    let at = writing::bytes(text, at, name);
-    let at = writing::decimal(text, at, n);
-    writing::byte(text, at, b'\n')
+    let Tally {
+        messages,
+        frames,
+        bytes,
+        checksum,
+        ..
+    } = tally;
+    let mut text = Line::<256>::default();
+    let _ = writeln!(
+        text,
+        "messages {messages}\nframes {frames}\nbytes {bytes}\nchecksum {checksum}"
+    );
+    Output::fresh().say(rt, text.text());
 }

@@ -7,10 +7,11 @@
 use open_end::{Frame, shown};
 use opening::write_reply;
 use settings::Settings;
+use settings::agreed::own_fields;
 use telegram::cutting;
-use telegram::kinds::{Parameters, write_accept};
+use telegram::kinds::write_accept;
 use telegram::payload::Payload;
-use text::{reading, writing};
+use text::reading;
 
 pub(crate) const UNITS: usize = 8;
 
@@ -18,8 +19,6 @@ pub(crate) const UNITS: usize = 8;
 pub(crate) const OPENING: usize = 3;
 
 pub(crate) const STEPS: usize = OPENING + 144;
-
-const FRAMES: usize = UNITS * STEPS;
 
 // The bytes of a message: 144 times 7, without the two of its length.
 const LENGTH: usize = 1006;
@@ -32,7 +31,7 @@ const BLOCK: u8 = 15;
 
 // What came and went. The checksum is a sum over what we handed over, each telegram mixed with the step at which it went, and
 // over the bytes of the messages taken: it does not hang on whose turn it was.
-#[derive(Clone, Copy)]
+#[derive(Clone, Copy, Default)]
 pub(crate) struct Tally {
     pub(crate) messages: u64,
     pub(crate) frames: u64,
@@ -73,16 +72,13 @@ fn size_of(step: usize) -> usize {
 
 // The message of each unit, one behind the other.
 pub(crate) fn compose(messages: &mut [u8]) {
-    let mut b = 0;
-    let mut i = 0;
-    while i < messages.len() {
-        let unit = (i / LENGTH % UNITS) as u8;
-        if i % LENGTH == 0 {
-            b = unit;
+    for (nth, message) in messages.chunks_mut(LENGTH).enumerate() {
+        let unit = (nth % UNITS) as u8;
+        let mut b = unit;
+        for byte in message.iter_mut() {
+            *byte = b;
+            b = b.wrapping_add(2 * unit + 3);
         }
-        messages[i] = b;
-        b = b.wrapping_add(2 * unit + 3);
-        i += 1;
     }
 }
 
@@ -94,13 +90,10 @@ fn message_of(messages: &[u8], unit: usize) -> &[u8] {
 
 // Every frame, eight bytes each: step by step, those of all units.
 pub(crate) fn cut(messages: &[u8], frames: &mut [u8]) {
-    let mut at = 0;
-    let mut k = 0;
-    while k < FRAMES {
-        let payload = written(messages, k % UNITS, k / UNITS);
-        let bytes = payload.bytes;
-        at = writing::bytes(frames, at, &bytes);
-        k += 1;
+    let (frames, _) = frames.as_chunks_mut::<8>();
+    for (k, frame) in frames.iter_mut().enumerate() {
+        let bytes = written(messages, k % UNITS, k / UNITS).bytes;
+        *frame = bytes;
     }
 }
 
@@ -108,28 +101,14 @@ pub(crate) fn cut(messages: &[u8], frames: &mut [u8]) {
 fn written(messages: &[u8], unit: usize, step: usize) -> Payload {
     let nth = (unit % UNITS) as u16;
     match step {
-        0 => no_bytes(),
+        0 => Payload {
+            len: 0,
+            bytes: [0; 8],
+        },
         1 => write_reply(0xD0, 0x300 + nth, 0x740 + nth),
-        2 => accept(),
+        2 => write_accept(own_fields(settings_for(unit))),
         _ => cutting::frame(message_of(messages, unit), BLOCK, 0, place_of(step)),
     }
-}
-
-fn no_bytes() -> Payload {
-    Payload {
-        len: 0,
-        bytes: [0, 0, 0, 0, 0, 0, 0, 0],
-    }
-}
-
-// An A1 with our own times.
-fn accept() -> Payload {
-    let settings = Settings::DEFAULT;
-    write_accept(Parameters {
-        block: BLOCK,
-        t1: settings.t1,
-        t3: settings.t3,
-    })
 }
 
 // Where in its message the frame of a step stands.
@@ -150,16 +129,6 @@ pub(crate) fn telegram(frames: &[u8], unit: usize, step: usize) -> &[u8] {
 }
 
 impl Tally {
-    pub(crate) fn none() -> Tally {
-        Tally {
-            messages: 0,
-            frames: 0,
-            bytes: 0,
-            checksum: 0,
-            wrong: false,
-        }
-    }
-
     // A unit's frame of so many bytes came at a step, and one of ours went, if there is one.
     pub(crate) fn with_turn(self, step: usize, len: usize, frame: Option<Frame>) -> Tally {
         let tally = self.with_frame(len);
@@ -177,10 +146,10 @@ impl Tally {
 
     fn with_handed(self, step: usize, frame: Frame) -> Tally {
         let payload = frame.payload;
-        let bytes = payload.bytes;
         let mut tally = self.with_frame(payload.len);
         let nth = (step % 256) as u64;
-        let mixed = (4099 * nth + 257 * (frame.id as u64) + weighed(&bytes) % 65536) % 65521;
+        let mixed = (4099 * nth + 257 * (frame.id as u64) + weighed(&payload.bytes) % 65536)
+            % 65521;
         tally.checksum = tally.checksum.wrapping_add(mixed);
         tally
     }
@@ -195,7 +164,7 @@ impl Tally {
     ) -> Tally {
         self.messages = self.messages.wrapping_add(1);
         self.checksum = self.checksum.wrapping_add(sum(message));
-        if (flags != 0) | !same(message, message_of(messages, unit)) {
+        if flags != 0 || message != message_of(messages, unit) {
             self.wrong = true;
         }
         self
@@ -204,39 +173,13 @@ impl Tally {
 
 // The eight bytes of a telegram, each weighed twice as much as the next.
 fn weighed(bytes: &[u8; 8]) -> u64 {
-    let mut total: u64 = 0;
-    let mut i = 0;
-    while i < 8 {
-        total = total.wrapping_add(total);
-        total = total.wrapping_add(wide(bytes[i]));
-        i += 1;
-    }
-    total
-}
-
-fn wide(b: u8) -> u64 {
-    b as u64
+    bytes.iter().fold(0u64, |total, b| {
+        total.wrapping_add(total).wrapping_add(u64::from(*b))
+    })
 }
 
 fn sum(bytes: &[u8]) -> u64 {
-    let mut total: u64 = 0;
-    let mut i = 0;
-    while i < bytes.len() {
-        total = total.wrapping_add(wide(bytes[i]));
-        i += 1;
-    }
-    total
-}
-
-pub(crate) fn same(a: &[u8], b: &[u8]) -> bool {
-    if a.len() != b.len() {
-        return false;
-    }
-    let mut differ = false;
-    let mut i = 0;
-    while i < a.len() {
-        differ = differ | (a[i] != b[i]);
-        i += 1;
-    }
-    !differ
+    bytes
+        .iter()
+        .fold(0u64, |total, b| total.wrapping_add(u64::from(*b)))
 }

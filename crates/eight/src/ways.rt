@@ -48,7 +48,7 @@ pub(crate) fn play(way: Way, rounds: u64, sent: Sent<'_>, buffers: &mut [u8]) ->
 
 // One unit after another, the record at work being lent all of the buffers.
 fn apart(rounds: u64, sent: Sent<'_>, buffer: &mut [u8]) -> Tally {
-    let mut tally = Tally::none();
+    let mut tally = Tally::default();
     for unit in 0..UNITS {
         tally = exchange(tally, unit, rounds, sent, buffer);
     }
@@ -122,7 +122,7 @@ fn opening() -> All {
     }
     All {
         table,
-        tally: Tally::none(),
+        tally: Tally::default(),
     }
 }
 

@@ -13,17 +13,16 @@ ghost use Rattle.std.specs.Prelude.{◌≡◌};
 ghost use Rattle.settings.specs.Agreed.{own_fields};
 ghost use Rattle.connection.specs.Record.{requesting, agreeing, opened};
 
-use connection::attempt::Attempt;
 use connection::{Connection, OPEN};
 use open_end::{OpenEnd, shown};
-use profile::Profile;
-use sender::Terms;
 use settings::Settings;
-use telegram::kinds::Parameters;
-use telegram::time::tenths;
+use settings::agreed::{agree, own_fields};
+use std::fmt::Write;
+use std::mem;
 use text::input::read_full;
+use text::line::Line;
 use text::output::Output;
-use text::{reading, writing};
+use text::reading;
 
 // The IDs that the two ends receive on.
 const ONE: u16 = 0x300;
@@ -50,7 +49,7 @@ const RUNS: usize = 2 * (FRAMES / BLOCK as usize + 1);
 const MOST_ROUNDS: u64 = 1000000;
 
 // What went over both links. The checksum is the sum of all sums of the bytes so far.
-#[derive(Clone, Copy)]
+#[derive(Clone, Copy, Default)]
 struct Tally {
     messages: u64,
     frames: u64,
@@ -66,104 +65,75 @@ struct Ends {
     to: Connection,
     // The message in sending was acknowledged to its end.
     done: bool,
-    // A message was not handed out as it was sent.
-    wrong: bool,
     tally: Tally,
 }
+
+// A message was not handed out as it was sent.
+#[derive(Clone, Copy)]
+struct Altered;
 
 fn main(rt: HostRuntime) {
     let mut text = [0u8; 4096];
     let n = read_full(&rt, &mut text);
-    let rounds = read_rounds(&text[..n]);
-    if rounds == 0 {
+    let Some(rounds) = read_rounds(&text[..n]) else {
         Output::fresh().say(
             &rt,
             b"error: standard input is not a number of rounds from 1 to 1000000\n",
         );
         return;
-    }
-    let mut message = [0; 1024];
-    let mut buffer = [0; 1024];
-    let ends = play(rounds, &mut message, &mut buffer);
-    if ends.wrong {
-        Output::fresh().say(&rt, b"error: a message was not handed out as it was sent\n");
-        return;
-    }
-    tell(&rt, ends.tally);
-}
-
-// The number of rounds: 1 for no text, and 0 for what is no such number. The text may end in a line end.
-fn read_rounds(text: &[u8]) -> u64 {
-    if text.len() == 0 {
-        return 1;
-    }
-    let last = text.len() - 1;
-    if text[last] == b'\n' {
-        return rounds_of(reading::part(text, 0, last));
-    }
-    rounds_of(text)
-}
-
-fn rounds_of(digits: &[u8]) -> u64 {
-    match reading::decimal(digits) {
-        Ok(n) => at_most(n),
-        Err(_) => 0,
+    };
+    let mut message = [0; LONGEST];
+    let mut buffer = [0; LONGEST];
+    match play(rounds, &mut message, &mut buffer) {
+        Ok(tally) => tell(&rt, tally),
+        Err(Altered) => {
+            Output::fresh().say(&rt, b"error: a message was not handed out as it was sent\n");
+        }
     }
 }
 
-// A number of rounds, and 0 for too many.
-fn at_most(n: u64) -> u64 {
-    if MOST_ROUNDS < n {
-        return 0;
+// The number of rounds: 1 for no text. The text may end in a line end.
+fn read_rounds(text: &[u8]) -> Option<u64> {
+    if text.is_empty() {
+        return Some(1);
     }
-    n
+    match reading::decimal(text.strip_suffix(b"\n").unwrap_or(text)) {
+        Ok(n @ 1..=MOST_ROUNDS) => Some(n),
+        _ => None,
+    }
 }
 
-fn play(rounds: u64, message: &mut [u8], buffer: &mut [u8]) -> Ends {
+// Every length once each way, in each round.
+fn play(rounds: u64, message: &mut [u8], buffer: &mut [u8]) -> Result<Tally, Altered> {
     let mut ends = fresh();
-    let mut left = rounds;
-    while 0 < left {
-        left -= 1;
-        ends = round(ends, message, buffer);
-        if ends.wrong {
-            return ends;
+    for _ in 0..rounds {
+        for len in 1..=LONGEST {
+            ends = one_way(ends, len, 3, message, buffer)?;
+            ends = one_way(ends, len, 5, message, buffer)?;
         }
     }
-    ends
+    Ok(ends.tally)
 }
 
-// Every length once, each way.
-fn round(start: Ends, message: &mut [u8], buffer: &mut [u8]) -> Ends {
-    let mut ends = start;
-    let mut len = 1;
-    while len <= LONGEST {
-        ends = both_ways(ends, len, message, buffer);
-        if ends.wrong {
-            return ends;
-        }
-        len += 1;
-    }
-    ends
-}
-
-fn both_ways(ends: Ends, len: usize, message: &mut [u8], buffer: &mut [u8]) -> Ends {
-    let there = one_way(ends, len, 3, message, buffer);
-    one_way(there, len, 5, message, buffer)
-}
-
-fn one_way(ends: Ends, len: usize, step: u8, message: &mut [u8], buffer: &mut [u8]) -> Ends {
+// A message is sent, and taken at the other end.
+fn one_way(
+    ends: Ends,
+    len: usize,
+    step: u8,
+    message: &mut [u8],
+    buffer: &mut [u8],
+) -> Result<Ends, Altered> {
     fill(message, len, step);
-    ends.carried(shown(message, len), buffer)
+    let message = shown(message, len);
+    carry(ends.offered(message), message, buffer).taken(message, buffer)
 }
 
 // Bytes that hang on the message's length and their place.
 fn fill(message: &mut [u8], len: usize, step: u8) {
     let mut b = (len % 256) as u8;
-    let mut i = 0;
-    while i < message.len() {
-        message[i] = b;
+    for byte in message.iter_mut() {
+        *byte = b;
         b = b.wrapping_add(step);
-        i += 1;
     }
 }
 
@@ -171,9 +141,7 @@ fn fill(message: &mut [u8], len: usize, step: u8) {
 fn carry(start: Ends, message: &[u8], buffer: &mut [u8]) -> Ends {
     let mut ends = start;
     let mut sends = true;
-    let mut left = RUNS;
-    while 0 < left {
-        left -= 1;
+    for _ in 0..RUNS {
         ends = run(ends, lent(message, sends), buffer);
         if ends.done {
             return ends;
@@ -188,44 +156,30 @@ fn carry(start: Ends, message: &[u8], buffer: &mut [u8]) -> Ends {
 // not open. Before each frame the time between two data frames passes.
 fn run(start: Ends, message: &[u8], buffer: &mut [u8]) -> Ends {
     let mut ends = start;
-    if ends.from.phase != OPEN {
+    if ends.from.phase != OPEN || ends.to.phase != OPEN {
         return ends;
     }
-    if ends.to.phase != OPEN {
-        return ends;
-    }
-    let mut left = TURNS;
-    while 0 < left {
-        left -= 1;
-        let c = ends.from;
-        let e = c.elapse(GAP);
-        let c = e.left;
-        if c.phase != OPEN {
-            ends.from = c;
+    for _ in 0..TURNS {
+        ends.from = ends.from.elapse(GAP).left;
+        if ends.from.phase != OPEN {
             return ends;
         }
-        let d = c.due(message);
-        let next = d.left;
-        ends.from = next;
-        if next.phase != OPEN {
+        let d = ends.from.due(message);
+        ends.from = d.left;
+        if ends.from.phase != OPEN {
             return ends;
         }
         let Some(frame) = d.frame else {
             return ends;
         };
-        let payload = frame.payload;
-        let bytes = payload.bytes;
-        let c = ends.to;
-        let r = c.arrive(frame.id, telegram(&bytes, payload.len), buffer);
-        let done = r.told.said.done;
-        let next = r.left;
-        ends.to = next;
-        if next.phase != OPEN {
+        let bytes = shown(&frame.payload.bytes, frame.payload.len);
+        let r = ends.to.arrive(frame.id, bytes, buffer);
+        ends.to = r.left;
+        if ends.to.phase != OPEN {
             return ends;
         }
-        let tally = ends.tally;
-        ends.tally = tally.with_frame(telegram(&bytes, payload.len));
-        if done {
+        ends.tally = ends.tally.with_frame(bytes);
+        if r.told.said.done {
             ends.done = true;
             return ends;
         }
@@ -235,10 +189,7 @@ fn run(start: Ends, message: &[u8], buffer: &mut [u8]) -> Ends {
 
 // The message, for the end that sends it.
 fn lent(message: &[u8], sends: bool) -> &[u8] {
-    if sends {
-        return message;
-    }
-    shown(message, 0)
+    if sends { message } else { shown(message, 0) }
 }
 
 // Two open ends, and nothing over the links yet.
@@ -247,14 +198,7 @@ fn fresh() -> Ends {
         from: opened(ONE, OTHER),
         to: opened(OTHER, ONE),
         done: false,
-        wrong: false,
-        tally: Tally {
-            messages: 0,
-            frames: 0,
-            bytes: 0,
-            sum: 0,
-            checksum: 0,
-        },
+        tally: Tally::default(),
     }
 }
 
@@ -268,76 +212,34 @@ fn opened(receive: u16, transmit: u16) -> Connection
     settings.block = BLOCK;
     Connection {
         phase: OPEN,
-        leaving: false,
         settings,
-        profile: Profile::TP20,
-        attempt: Attempt {
-            wait: 0,
-            due: false,
-            asked: false,
-            repeats: 0,
-        },
-        end: OpenEnd::fresh(
-            transmit,
-            receive,
-            channel::Parameters {
-                terms: Terms {
-                    t1: tenths(settings.t1),
-                    t3: tenths(settings.t3),
-                    t_wait: settings.t_wait as u32,
-                    block: settings.block,
-                    repeats: settings.mntb,
-                },
-                interval: settings.t_ct as u32,
-                allowed: settings.mnct,
-                own: Parameters {
-                    block: settings.block,
-                    t1: settings.t1,
-                    t3: settings.t3,
-                },
-            },
-        ),
+        end: OpenEnd::fresh(transmit, receive, agree(settings, own_fields(settings))),
+        ..Connection::closed()
     }
 }
 
 impl Ends {
-    // A message is sent, and taken at the other end.
-    fn carried(self, message: &[u8], buffer: &mut [u8]) -> Ends {
-        carry(self.offered(message), message, buffer).taken(message, buffer)
-    }
-
     // A message is sent.
     fn offered(mut self, message: &[u8]) -> Ends {
-        let c = self.from;
-        let r = c.send(message);
-        let next = r.left;
-        self.from = next;
+        self.from = self.from.send(message).left;
         self.done = false;
         self
     }
 
     fn swapped(mut self) -> Ends {
-        let from = self.to;
-        let to = self.from;
-        self.from = from;
-        self.to = to;
+        mem::swap(&mut self.from, &mut self.to);
         self
     }
 
     // The message is taken at the end that handed over the last Ack, and compared with what was sent: its bytes, and flags 0.
-    fn taken(mut self, message: &[u8], buffer: &[u8]) -> Ends {
-        let c = self.from;
-        let t = c.take_step(buffer.len());
-        let len = t.len;
-        let flags = t.flags;
-        let next = t.left;
-        self.from = next;
-        let tally = self.tally;
-        self.tally = tally.with_message(len);
-        if (flags != 0) | !same(shown(buffer, len), message) {
-            self.wrong = true;
+    fn taken(mut self, message: &[u8], buffer: &[u8]) -> Result<Ends, Altered> {
+        let t = self.from.take_step(buffer.len());
+        self.from = t.left;
+        self.tally = self.tally.with_message(t.len);
+        if t.flags != 0 || shown(buffer, t.len) != message {
+            return Err(Altered);
         }
-        self
+        Ok(self)
     }
 }
 
@@ -353,10 +255,8 @@ impl Tally {
 
     fn with_frame(mut self, bytes: &[u8]) -> Tally {
         self.frames = self.frames.wrapping_add(1);
-        let mut i = 0;
-        while i < bytes.len() {
-            self = self.with_byte(bytes[i]);
-            i += 1;
+        for b in bytes {
+            self = self.with_byte(*b);
         }
         self
     }
@@ -369,39 +269,18 @@ impl Tally {
     }
 }
 
-// The bytes of a telegram.
-fn telegram(bytes: &[u8; 8], len: usize) -> &[u8] {
-    shown(bytes, len)
-}
-
-fn same(a: &[u8], b: &[u8]) -> bool {
-    if a.len() != b.len() {
-        return false;
-    }
-    let mut differ = false;
-    let mut i = 0;
-    while i < a.len() {
-        differ = differ | (a[i] != b[i]);
-        i += 1;
-    }
-    !differ
-}
-
 fn tell<R: Print + Eprint>(rt: &R, tally: Tally) {
-    let mut text = [0; 256];
-    let end = report(&mut text, tally);
-    Output::fresh().say(rt, shown(&text, end));
-}
-
-fn report(text: &mut [u8], tally: Tally) -> usize {
-    let at = line(text, 0, b"messages ", tally.messages);
-    let at = line(text, at, b"frames ", tally.frames);
-    let at = line(text, at, b"bytes ", tally.bytes);
-    line(text, at, b"checksum ", tally.checksum)
-}
-
-fn line(text: &mut [u8], at: usize, name: &[u8], n: u64) -> usize {
-    let at = writing::bytes(text, at, name);
-    let at = writing::decimal(text, at, n);
-    writing::byte(text, at, b'\n')
+    let Tally {
+        messages,
+        frames,
+        bytes,
+        checksum,
+        ..
+    } = tally;
+    let mut text = Line::<256>::default();
+    let _ = writeln!(
+        text,
+        "messages {messages}\nframes {frames}\nbytes {bytes}\nchecksum {checksum}"
+    );
+    Output::fresh().say(rt, text.text());
 }

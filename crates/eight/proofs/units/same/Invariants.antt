@@ -1,6 +1,0 @@
--- Each turn compares a byte more.
-use Rattle.std.proofs.Common.{◌-◌, length}
-use Rattle.eight.proofs.units.same.Given as goal
-
-abbrev pub decreases-loop-i : goal.decreases-loop-i
-decreases-loop-i l = length l.a - l.i

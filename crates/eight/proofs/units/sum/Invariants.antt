@@ -1,6 +1,0 @@
--- Each turn adds a byte more.
-use Rattle.std.proofs.Common.{◌-◌, length}
-use Rattle.eight.proofs.units.sum.Given as goal
-
-abbrev pub decreases-loop-i : goal.decreases-loop-i
-decreases-loop-i l = length l.bytes - l.i

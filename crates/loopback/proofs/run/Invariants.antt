@@ -1,5 +1,0 @@
--- Each turn hands over a frame more.
-use Rattle.loopback.proofs.run.Given as goal
-
-abbrev pub decreases-loop-left : goal.decreases-loop-left
-decreases-loop-left l = l.left
