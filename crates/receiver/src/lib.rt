@@ -214,6 +214,7 @@ impl Receiver {
     }
 
     // Data, in the order of the checks: out of place, one waits untaken, thrown away, a first or a later frame.
+    #[tactic(auto, using(laws::proofs::Branches::branches), unfolding(crate::specs::Receiving::on_data))]
     fn on_data(self, asks: bool, last: bool, number: u8, payload: &[u8], room: usize) -> Received
         ensures { result ≡ on_data longest self asks last number payload.now room }
     {
@@ -254,6 +255,7 @@ impl Receiver {
     }
 
     // What a frame brings to the message begun, or to the one that it begins.
+    #[tactic(auto, using(laws::proofs::Branches::branches), unfolding(crate::specs::Inside::brought_by))]
     fn brought(self, payload: &[u8]) -> Brought
         ensures { result ≡ brought_by self payload.now }
     {
@@ -337,6 +339,7 @@ impl Receiver {
     }
 
     // A frame that is numbered: the number behind it is expected.
+    #[tactic(auto, unfolding(crate::specs::Receiving::numbered))]
     fn numbered(
         self,
         asks: bool,

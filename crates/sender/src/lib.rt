@@ -305,6 +305,7 @@ impl Sender {
     }
 
     // Whether a frame is due.
+    #[tactic(auto, unfolding(crate::specs::Sending::frame_due))]
     fn frame_due(self) -> bool
         ensures { result ≡ frame_due self }
     {
@@ -326,6 +327,7 @@ impl Sender {
     }
 
     // The number of the message's first frame.
+    #[tactic(auto, unfolding(crate::specs::Sending::first_number))]
     fn first_number(self) -> u8
         ensures { result ≡ first_number self }
     {

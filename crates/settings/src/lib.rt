@@ -80,6 +80,7 @@ impl Settings {
     }
 
     // Whether every setting is in its range for a profile. Tests joined by `&` are all made: none guards another.
+    #[tactic(auto, unfolding(crate::specs::Settings::allowed_by))]
     pub fn in_range_of(self, profile: Profile) -> bool
         ensures { result ≡ allowed_by profile self }
     {

@@ -41,6 +41,7 @@ pub fn declared(high: u8, low: u8) -> Message
 }
 
 // How many telegrams a message of len bytes makes: (len + 8) / 7, in an order that cannot overflow.
+#[tactic(auto, unfolding(crate::specs::Cutting::frames_of))]
 pub fn frames(len: usize) -> usize
     ensures { result ≡ frames_of len }
 {
