@@ -14,11 +14,11 @@ unfolding opens
 returns-then-reserved c =
     let free = named-is (free_of c.args.self) c.in-Some.p c.in-Some.ensures in
     elim c.then-reserved.branch [
-      then-reserved-via-then-reserved w ↦ rw (c.tell-then-reserved.ensures, free.0, sym c.reserved.ensures ∙ w.if-reserved.true)
-    | then-reserved-via-else-reserved+then-is_used w ↦
-        rw (c.tell-then-reserved.ensures, free.0, sym c.reserved.ensures ∙ w.if-reserved.false, sym w.is_used.ensures ∙ w.if-is_used.true)
-    | then-reserved-via-else-reserved+else-is_used+then-not-in_range w ↦
-        rw (c.tell-then-reserved.ensures, free.0, sym c.reserved.ensures ∙ w.if-reserved.false, sym w.is_used.ensures ∙ w.if-is_used.false, ← w.in_range.ensures, w.if-not-in_range.true)
+      | then-reserved-via-then-reserved w ↦ rw (c.tell-then-reserved.ensures, free.0, sym c.reserved.ensures ∙ w.if-reserved.true)
+      | then-reserved-via-else-reserved+then-is_used w ↦
+          rw (c.tell-then-reserved.ensures, free.0, sym c.reserved.ensures ∙ w.if-reserved.false, sym w.is_used.ensures ∙ w.if-is_used.true)
+      | then-reserved-via-else-reserved+else-is_used+then-not-in_range w ↦
+          rw (c.tell-then-reserved.ensures, free.0, sym c.reserved.ensures ∙ w.if-reserved.false, sym w.is_used.ensures ∙ w.if-is_used.false, ← w.in_range.ensures, w.if-not-in_range.true)
     ]
 
 pub returns : goal.returns
