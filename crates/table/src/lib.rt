@@ -18,7 +18,7 @@ use settings::Settings;
 // How many places a table has.
 pub const PLACES: usize = 8;
 
-// The records, one a place.
+// The records, one a place. A call reads one and stores what it leaves: after a write behind `get_mut` a proof would know none.
 #[derive(Clone, Copy)]
 pub struct Table {
     pub places: [Connection; PLACES],
@@ -231,13 +231,17 @@ impl Table {
     pub fn take<'a>(self, place: u8, buffer: &'a [u8]) -> Taken<'a, Table>
         ensures { looked result ≡ shows self place buffer.entry }
     {
-        let step = self.take_step(place, buffer.len());
-        let message = shown(buffer, step.len);
+        let TakeStep {
+            told,
+            len,
+            flags,
+            left,
+        } = self.take_step(place, buffer.len());
         Taken {
-            told: step.told,
-            flags: step.flags,
-            left: step.left,
-            message,
+            told,
+            flags,
+            left,
+            message: shown(buffer, len),
         }
     }
 

@@ -176,16 +176,15 @@ impl Console {
 
     // A call that a table alone has.
     fn own<R: Print + Eprint>(self, rt: &R, name: u64, fill: usize, text: &mut [u8]) -> Console {
-        if name == OPEN {
-            let opening = read_opening(behind_word(shown(text, fill)));
-            return self.opened(rt, opening, text);
+        let rest = behind_word(shown(text, fill));
+        match name {
+            OPEN => self.opened(rt, read_opening(rest), text),
+            OWNER => self.owned(rt, only_id(rest), text),
+            _ => {
+                let session = self.session;
+                self.with(session.wrong(rt, text))
+            }
         }
-        if name == OWNER {
-            let id = only_id(behind_word(shown(text, fill)));
-            return self.owned(rt, id, text);
-        }
-        let session = self.session;
-        self.with(session.wrong(rt, text))
     }
 
     fn opened<R: Print + Eprint>(self, rt: &R, opening: Opening, text: &mut [u8]) -> Console {
