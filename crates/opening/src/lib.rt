@@ -80,7 +80,7 @@ pub fn write_reply(opcode: u8, receive: u16, transmit: u16) -> Payload
 fn id_of(low: u8, high: u8) -> u16
     ensures { result ≡ id_of low high }
 {
-    low as u16 + 256 * (high as u16)
+    u16::from_le_bytes([low, high])
 }
 
 // Reads a request; none if it is malformed.
