@@ -26,7 +26,7 @@ struct Console {
 }
 
 // What is kept for a place.
-#[derive(Clone, Copy)]
+#[derive(Clone, Copy, Default)]
 struct Kept {
     // How many bytes of its buffer are lent.
     room: u16,
@@ -101,20 +101,9 @@ impl Console {
         self
     }
 
-    // How many bytes of a place's buffer are lent.
-    fn room(self, place: u8) -> u16 {
-        match self.places.get(place as usize) {
-            Some(kept) => kept.room,
-            None => 0,
-        }
-    }
-
-    // The length of the message last accepted at a place.
-    fn length(self, place: u8) -> u16 {
-        match self.places.get(place as usize) {
-            Some(kept) => kept.length,
-            None => 0,
-        }
+    // What is kept for a place; for one that the table does not have, no room and no message.
+    fn kept(self, place: u8) -> Kept {
+        self.places.get(place as usize).copied().unwrap_or_default()
     }
 
     // Reads a line and answers it; it is understood whole before anything is done.
@@ -158,13 +147,13 @@ impl Console {
             }
             Call::Time(tenths) => self.elapsed(rt, asked.named, place, tenths, text),
             Call::Due => {
-                let message = shown(part(messages, place), self.length(place) as usize);
+                let message = shown(part(messages, place), self.kept(place).length as usize);
                 self.handed(rt, table.due(place, message), text)
             }
             Call::DueOf(count) => self.handed(rt, table.due(place, shown(bytes, count)), text),
             Call::Send(count) => self.sending(rt, place, shown(bytes, count), messages, text),
             Call::Take => {
-                let step = table.take_step(place, self.room(place) as usize);
+                let step = table.take_step(place, self.kept(place).room as usize);
                 self.taken(rt, step, part(buffers, place), text)
             }
             Call::Close => self.answered(rt, table.close(place), text),
@@ -232,7 +221,7 @@ impl Console {
             return table.arrive(id, bytes, &mut []);
         };
         let start = p as usize * PART;
-        match buffers.get_mut(start..start + self.room(p) as usize) {
+        match buffers.get_mut(start..start + self.kept(p).room as usize) {
             Some(lent) => table.arrive(id, bytes, lent),
             None => table.arrive(id, bytes, buffers),
         }
