@@ -9,11 +9,10 @@
 #![tactic(auto)]
 
 use connection::Connection;
-use open_end::{Frame, shown};
+use player::Player;
 use profile::Profile;
 use settings::Settings;
 use text::output::Output;
-use text::writing;
 
 // A routine is started, with twelve bytes: a message of three frames.
 const REQUEST: [u8; 14] = *b"\x31\x01\x00\x01\x02\x03\x04\x05\x06\x07\x08\x09\x0A\x0B";
@@ -32,23 +31,15 @@ const UNIT: u16 = 0x201;
 
 const RECEIVE: u16 = 0x740;
 
-// What a step leaves: the output, and the record.
-#[derive(Clone, Copy)]
-struct Played {
-    output: Output,
-    connection: Connection,
-}
-
 fn main(rt: HostRuntime) {
     let mut buffer = [0; 1024];
     let row = Profile::drive();
     let mut settings = Settings::default_16(row);
     settings.unit = 0x01;
     let opened = Connection::closed().open_as(row, settings);
-    let connection = opened.left;
-    let p = Played {
+    let p = Player {
         output: Output::fresh(),
-        connection,
+        connection: opened.left,
     };
     let p = set_up_channel(&rt, p, &mut buffer);
     let p = set_up_connection(&rt, p, &mut buffer);
@@ -60,32 +51,32 @@ fn main(rt: HostRuntime) {
 }
 
 // A wait's last tenth passes below the next heading: what ends with it stands there, and not above.
-fn set_up_channel<R: Print + Eprint>(rt: &R, p: Played, buffer: &mut [u8]) -> Played {
-    p.part(rt, b"# 001, 6.1.2: channel set-up missing Ack\n")
+fn set_up_channel<R: Print + Eprint>(rt: &R, p: Player, buffer: &mut [u8]) -> Player {
+    p.say(rt, b"# 001, 6.1.2: channel set-up missing Ack\n")
         .hand_over(rt, &[])
         .wait(rt, T_E - 1, &[])
-        .part(rt, b"# 001, 6.1.1: channel set-up with Ack\n")
+        .say(rt, b"# 001, 6.1.1: channel set-up with Ack\n")
         .wait(rt, 1, &[])
         .arrive(rt, UNIT, b"\x00\xD0\x41", buffer)
 }
 
 // The unit takes blocks of two frames.
-fn set_up_connection<R: Print + Eprint>(rt: &R, p: Played, buffer: &mut [u8]) -> Played {
-    p.part(rt, b"# 001, 6.2.2: connection set-up missing Ack\n")
+fn set_up_connection<R: Print + Eprint>(rt: &R, p: Player, buffer: &mut [u8]) -> Player {
+    p.say(rt, b"# 001, 6.2.2: connection set-up missing Ack\n")
         .hand_over(rt, &[])
         .wait(rt, T_E - 1, &[])
-        .part(rt, b"# 001, 6.2.1: connection set-up with Ack\n")
+        .say(rt, b"# 001, 6.2.1: connection set-up with Ack\n")
         .wait(rt, 1, &[])
         .arrive(rt, RECEIVE, b"\xA1\x02\x8A\xFF\x4A\xFF", buffer)
 }
 
 // The Ack of both frames is not ready, and then is: we hold for T_WAIT either way.
-fn send_block<R: Print + Eprint>(rt: &R, p: Played, buffer: &mut [u8]) -> Played {
-    p.part(
+fn send_block<R: Print + Eprint>(rt: &R, p: Player, buffer: &mut [u8]) -> Player {
+    p.say(
         rt,
         b"# 001, 5.2.3, 5.2.2.2: data without AR, then with AR; receiver not ready\n",
     )
-    .accept(&REQUEST)
+    .send(&REQUEST)
     .wait(rt, T3, &REQUEST)
     .wait(rt, T3, &REQUEST)
     .arrive(rt, RECEIVE, b"\x92", buffer)
@@ -95,8 +86,8 @@ fn send_block<R: Print + Eprint>(rt: &R, p: Played, buffer: &mut [u8]) -> Played
 }
 
 // With its Ack the message is done: nothing is sent again after T1.
-fn send_last<R: Print + Eprint>(rt: &R, p: Played, buffer: &mut [u8]) -> Played {
-    p.part(
+fn send_last<R: Print + Eprint>(rt: &R, p: Player, buffer: &mut [u8]) -> Player {
+    p.say(
         rt,
         b"# 001, 6.2.3: sending data with acknowledge request - ready response\n",
     )
@@ -106,8 +97,8 @@ fn send_last<R: Print + Eprint>(rt: &R, p: Played, buffer: &mut [u8]) -> Played 
 }
 
 // The answer is of three frames too.
-fn receive_block<R: Print + Eprint>(rt: &R, p: Played, buffer: &mut [u8]) -> Played {
-    p.part(
+fn receive_block<R: Print + Eprint>(rt: &R, p: Player, buffer: &mut [u8]) -> Player {
+    p.say(
         rt,
         b"# 001, 5.2.3: the direction changes; data without AR, then with AR\n",
     )
@@ -117,107 +108,14 @@ fn receive_block<R: Print + Eprint>(rt: &R, p: Played, buffer: &mut [u8]) -> Pla
     .wait(rt, T3, &[])
 }
 
-fn receive_last<R: Print + Eprint>(rt: &R, p: Played, buffer: &mut [u8]) -> Played {
-    p.part(rt, b"# 001, 5.2.3: data with AR and EOM\n")
+fn receive_last<R: Print + Eprint>(rt: &R, p: Player, buffer: &mut [u8]) -> Player {
+    p.say(rt, b"# 001, 5.2.3: data with AR and EOM\n")
         .arrive(rt, RECEIVE, b"\x12\x16\x17", buffer)
         .wait(rt, T3, &[])
 }
 
-fn disconnect<R: Print + Eprint>(rt: &R, p: Played) -> Played {
-    p.part(rt, b"# 001, 5.2.3: disconnect\n")
+fn disconnect<R: Print + Eprint>(rt: &R, p: Player) -> Player {
+    p.say(rt, b"# 001, 5.2.3: disconnect\n")
         .close()
         .hand_over(rt, &[])
-}
-
-impl Played {
-    // A part of the exchange begins.
-    fn part<R: Print + Eprint>(self, rt: &R, title: &[u8]) -> Played {
-        let output = self.output;
-        let connection = self.connection;
-        Played {
-            output: output.say(rt, title),
-            connection,
-        }
-    }
-
-    // The record that a call leaves.
-    fn with(mut self, connection: Connection) -> Played {
-        self.connection = connection;
-        self
-    }
-
-    // A CAN frame arrives, and a message that it completes is taken and printed.
-    fn arrive<R: Print + Eprint>(self, rt: &R, id: u16, bytes: &[u8], buffer: &mut [u8]) -> Played {
-        let output = self.output;
-        let c = self.connection;
-        let arrived = c.arrive(id, bytes, buffer);
-        let reached = arrived.left;
-        let taken = reached.take_step(buffer.len());
-        let connection = taken.left;
-        let len = taken.len;
-        Played {
-            output: print_message(rt, output, shown(buffer, len)),
-            connection,
-        }
-    }
-
-    // A message is offered.
-    fn accept(self, message: &[u8]) -> Played {
-        let c = self.connection;
-        let sent = c.send(message);
-        self.with(sent.left)
-    }
-
-    // Time passes, and what is due is handed over.
-    fn wait<R: Print + Eprint>(self, rt: &R, tenths: u64, message: &[u8]) -> Played {
-        let c = self.connection;
-        let passed = c.elapse(tenths);
-        self.with(passed.left).hand_over(rt, message)
-    }
-
-    fn close(self) -> Played {
-        let c = self.connection;
-        let closed = c.close();
-        self.with(closed.left)
-    }
-
-    // Hands over the frame that is due, if one is, and prints it.
-    fn hand_over<R: Print + Eprint>(self, rt: &R, message: &[u8]) -> Played {
-        let output = self.output;
-        let c = self.connection;
-        let due = c.due(message);
-        let connection = due.left;
-        let Some(frame) = due.frame else {
-            return Played { output, connection };
-        };
-        Played {
-            output: print_frame(rt, output, frame),
-            connection,
-        }
-    }
-}
-
-// A frame: its ID, and its data.
-fn print_frame<R: Print + Eprint>(rt: &R, output: Output, frame: Frame) -> Output {
-    let payload = frame.payload;
-    let data = payload.bytes;
-    let mut id = [0; 3];
-    let end = writing::id(&mut id, 0, frame.id);
-    print_line(rt, output, shown(&id, end), shown(&data, payload.len))
-}
-
-// No line for no message.
-fn print_message<R: Print + Eprint>(rt: &R, output: Output, message: &[u8]) -> Output {
-    if message.len() == 0 {
-        return output;
-    }
-    print_line(rt, output, b"message", message)
-}
-
-fn print_line<R: Print + Eprint>(rt: &R, output: Output, name: &[u8], bytes: &[u8]) -> Output {
-    let mut line = [0; 3080];
-    let end = writing::bytes(&mut line, 0, name);
-    let end = writing::pairs(&mut line, end, bytes);
-    let end = writing::byte(&mut line, end, b'\n');
-    output.say(rt, shown(&line, end))
 }
