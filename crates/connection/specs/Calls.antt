@@ -1,7 +1,6 @@
 -- 01, "The record and its calls", "Opening" and "Numbers we answer with": what each call answers and leaves.
 use Rattle.std.specs.Prelude.{ℕ, ◌+◌, ◌-◌, true, false, not, ◌||◌, List, length, ltb, leb, eqb, if◌then◌else◌}
 use Rattle.std.specs.Borrow.{Bor}
-use Rattle.std.specs.declared.option.Option.TheVariants.{None, Some}
 use Rattle.telegram.specs.Kinds.{bad_block, setup_of, disconnect_of}
 use Rattle.opening.specs.Opening.{Reply, Positive, Refused as RefusedBy, NoReply}
 use Rattle.telegram.specs.declared.kinds.Parameters.{Parameters as Fields}

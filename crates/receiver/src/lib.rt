@@ -201,6 +201,7 @@ impl Receiver {
     }
 
     // What becomes of a telegram, in a buffer of room bytes.
+    #[tactic(auto, unfolding(crate::specs::Receiving::received))]
     fn judge(self, telegram: Telegram, payload: &[u8], room: usize) -> Received
         ensures { result ≡ received longest self telegram payload.now room }
     {

@@ -168,6 +168,7 @@ impl Sender {
     }
 
     // A sorted telegram arrives.
+    #[tactic(auto, unfolding(crate::specs::Sending::heard))]
     pub fn hear(self, terms: Terms, telegram: Telegram) -> Heard
         ensures { result ≡ heard terms self telegram }
     {
@@ -288,6 +289,7 @@ impl Sender {
     }
 
     // A frame is asked for, and the message in sending is lent.
+    #[tactic(auto, using(laws::proofs::Branches::branches), unfolding(crate::specs::Sending::handed))]
     pub fn hand(self, terms: Terms, message: &[u8]) -> Handed
         ensures { result ≡ handed terms self message.now }
     {

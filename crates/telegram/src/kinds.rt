@@ -58,6 +58,7 @@ fn fillable(kind: Telegram) -> bool
     )
 }
 
+#[tactic(auto, using(laws::proofs::Branches::branches), unfolding(crate::specs::Kinds::kind_of))]
 fn kind(s: &[u8]) -> Telegram
     ensures { result ≡ (sorted s.now).kind }
 {
