@@ -9,8 +9,8 @@ ghost use Rattle.telegram.specs.Cutting.{longest};
 ghost use Rattle.arrival.specs.Arrived.{data_answer, ack_answer, answered, on_data, on_ack, on_test, on_break, on_accept, arrived, buffered_by};
 
 use channel::{Answer, Answered, Channel, Tests, say};
-use receiver::Receipt;
-use sender::Hearing;
+use receiver::{Receipt, Received};
+use sender::{Heard, Hearing};
 use telegram::kinds::{Parameters, Telegram, bad_block};
 
 fn data_answer(note: Receipt) -> Answer
@@ -61,15 +61,8 @@ pub fn arrive(channel: Channel, telegram: Telegram, payload: &[u8], buffer: &mut
     ensures buffer_after { buffer.new ≡ buffered_by longest channel telegram payload.now buffer.old }
 {
     match telegram {
-        Telegram::Data {
-            asks: _,
-            last: _,
-            number: _,
-        } => on_data(channel, telegram, payload, buffer),
-        Telegram::Ack {
-            ready: _,
-            number: _,
-        } => on_ack(channel, telegram),
+        Telegram::Data { .. } => on_data(channel, telegram, payload, buffer),
+        Telegram::Ack { .. } => on_ack(channel, telegram),
         Telegram::Test => on_test(channel),
         Telegram::Break => on_break(channel),
         Telegram::Disconnect => answered(channel, Answer::Disconnected),
@@ -84,11 +77,8 @@ fn on_data(mut channel: Channel, telegram: Telegram, payload: &[u8], buffer: &mu
     ensures value { result ≡ on_data longest channel telegram payload.now (length buffer.old) }
     ensures buffer_after { buffer.new ≡ buffered_by longest channel telegram payload.now buffer.old }
 {
-    let receiver = channel.receiver;
-    let r = receiver.receive(telegram, payload, buffer);
-    let note = r.note;
-    let next = r.receiver;
-    channel.receiver = next;
+    let Received { note, receiver } = channel.receiver.receive(telegram, payload, buffer);
+    channel.receiver = receiver;
     answered(channel, data_answer(note))
 }
 
@@ -96,12 +86,8 @@ fn on_data(mut channel: Channel, telegram: Telegram, payload: &[u8], buffer: &mu
 fn on_ack(mut channel: Channel, telegram: Telegram) -> Answered
     ensures { result ≡ on_ack channel telegram }
 {
-    let sender = channel.sender;
-    let parameters = channel.parameters;
-    let h = sender.hear(parameters.terms, telegram);
-    let note = h.note;
-    let next = h.sender;
-    channel.sender = next;
+    let Heard { note, sender } = channel.sender.hear(channel.parameters.terms, telegram);
+    channel.sender = sender;
     answered(channel, ack_answer(note))
 }
 
@@ -117,31 +103,27 @@ fn on_test(mut channel: Channel) -> Answered
 fn on_break(mut channel: Channel) -> Answered
     ensures { result ≡ on_break channel }
 {
-    let receiver = channel.receiver;
-    let next = receiver.on_break();
-    channel.receiver = next;
+    channel.receiver = channel.receiver.on_break();
     answered(channel, Answer::Good)
 }
 
 // An A1 arrives.
+#[tactic(auto, using(laws::proofs::Branches::branches), unfolding(crate::specs::Arrived::on_accept))]
 fn on_accept(mut channel: Channel, fields: Parameters) -> Answered
     ensures { result ≡ on_accept channel fields }
 {
-    let out = channel.tests.out;
-    let block = fields.block;
-    if !out {
+    if !channel.tests.out {
         return answered(channel, Answer::NotDue);
     }
-    if bad_block(block) {
+    if bad_block(fields.block) {
         return answered(channel, Answer::BlockSize);
     }
-    let tests = Tests {
+    channel.tests = Tests {
         out: false,
         again: false,
         wait: 0,
         unanswered: 0,
         interval: channel.tests.interval,
     };
-    channel.tests = tests;
     answered(channel, Answer::Good)
 }

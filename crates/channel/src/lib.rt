@@ -12,8 +12,7 @@ ghost use Rattle.channel.specs.Numbers.{plain, said};
 ghost use Rattle.channel.specs.Opened.{fresh, restarted, offer_answer, wait_ends, later, repeats_used_up, went, elapsed, test_due, hand_over, hand_nothing, hand_accept, hand_test, hand_ack, hand_data, due, sent};
 
 use receiver::{Cause, Receiver};
-use sender::{Handed, Handing, OfferError, Offered, Passing, Sender, Terms};
-use telegram::kinds::{write_accept, write_ack, write_test};
+Xuse telegram::kinds::{write_accept, write_ack, write_test};
 use telegram::payload::Payload;
 use telegram::time::less;
 
@@ -182,20 +181,17 @@ impl Channel {
     pub fn fresh(parameters: Parameters) -> Channel
         ensures { result ≡ fresh parameters }
     {
-        let sender = Sender::fresh();
-        let receiver = Receiver::fresh();
-        let tests = Tests {
-            out: false,
-            again: false,
-            wait: 0,
-            unanswered: 0,
-            interval: parameters.interval,
-        };
         Channel {
             parameters,
-            sender,
-            receiver,
-            tests,
+            sender: Sender::fresh(),
+            receiver: Receiver::fresh(),
+            tests: Tests {
+                out: false,
+                again: false,
+                wait: 0,
+                unanswered: 0,
+                interval: parameters.interval,
+            },
             accept: false,
         }
     }
@@ -204,8 +200,7 @@ impl Channel {
     pub fn restarted(mut self) -> Channel
         ensures { result ≡ restarted self }
     {
-        let interval = self.parameters.interval;
-        self.tests.interval = interval;
+        self.tests.interval = self.parameters.interval;
         self
     }
 
@@ -213,14 +208,8 @@ impl Channel {
     pub fn elapse(self, tenths: u64) -> Answered
         ensures { result ≡ elapsed self tenths }
     {
-        let sender = self.sender;
-        let parameters = self.parameters;
         let mut tests = self.tests;
-        let allowed = parameters.allowed;
-        let unanswered = tests.unanswered;
-        let p = sender.pass(parameters.terms, tenths);
-        let note = p.note;
-        let next = p.sender;
+        let Passed { note, sender } = self.sender.pass(self.parameters.terms, tenths);
         if repeats_used_up(note) {
             return Answered {
                 answer: Answer::UsedUp,
@@ -228,14 +217,14 @@ impl Channel {
             };
         }
         if !tests.wait_ends(tenths) {
-            return self.went(next, tests.later(tenths));
+            return self.went(sender, tests.later(tenths));
         }
-        if unanswered < allowed {
+        if tests.unanswered < self.parameters.allowed {
             tests.again = true;
             tests.wait = 0;
-            tests.unanswered = unanswered + 1;
+            tests.unanswered += 1;
             tests.interval = less(tests.interval, tenths);
-            return self.went(next, tests);
+            return self.went(sender, tests);
         }
         Answered {
             answer: Answer::UsedUp,
@@ -272,26 +261,23 @@ impl Channel {
     fn test_due(self) -> bool
         ensures { result ≡ test_due self }
     {
-        let sender = self.sender;
         let tests = self.tests;
-        let interval = self.parameters.interval;
-        !sender.has_unacknowledged()
-            & (tests.again | (!tests.out & (0 < interval) & (tests.interval == 0)))
+        !self.sender.has_unacknowledged()
+            & (tests.again | (!tests.out & (0 < self.parameters.interval) & (tests.interval == 0)))
     }
 
     // A telegram is asked for, and the message in sending is lent.
+    #[tactic(auto, using(laws::proofs::Branches::branches), unfolding(crate::specs::Opened::due))]
     pub fn due(self, message: &[u8]) -> Due
         ensures { result ≡ due self message.now }
     {
-        let accept = self.accept;
-        let ack = self.receiver.ack.due;
-        if accept {
+        if self.accept {
             return self.hand_accept();
         }
         if self.test_due() {
             return self.hand_test();
         }
-        if ack {
+        if self.receiver.ack.due {
             return self.hand_ack();
         }
         self.hand_data(message)
@@ -301,19 +287,17 @@ impl Channel {
     fn hand_accept(mut self) -> Due
         ensures { result ≡ hand_accept self }
     {
-        let parameters = self.parameters;
         self.accept = false;
-        self.hand_over(write_accept(parameters.own))
+        self.hand_over(write_accept(self.parameters.own))
     }
 
     // A test is handed over.
     fn hand_test(mut self) -> Due
         ensures { result ≡ hand_test self }
     {
-        let t1 = self.parameters.terms.t1;
         self.tests.out = true;
         self.tests.again = false;
-        self.tests.wait = t1;
+        self.tests.wait = self.parameters.terms.t1;
         self.hand_over(write_test())
     }
 
@@ -321,10 +305,8 @@ impl Channel {
     fn hand_ack(mut self) -> Due
         ensures { result ≡ hand_ack self }
     {
-        let receiver = self.receiver;
-        let ack = receiver.ack;
-        let next = receiver.hand_ack();
-        self.receiver = next;
+        let ack = self.receiver.ack;
+        self.receiver = self.receiver.hand_ack();
         self.hand_over(write_ack(ack.ready, ack.number))
     }
 

@@ -27,12 +27,11 @@ module _ (c : Connection) (agreeing' : c.phase ≡ 2) where
       ≡ record {
         told = plainly Good 0;
         frame =
-            Some (
-            record {
+            Some
+            (record {
               id = c.end.transmit;
               payload = record { len = 6; bytes = 0xA0 ∷ c.settings.block ∷ c.settings.t1 ∷ 0xFF ∷ c.settings.t3 ∷ 0xFF ∷ 0 ∷ 0 ∷ [] };
-            }
-            );
+            });
         left =
             record {
               phase = 2;

@@ -216,16 +216,15 @@ module _ (c : Connection) (requesting' : c.phase ≡ 1) where
       ≡ record {
         told = plainly Good 0;
         frame =
-            Some (
-            record {
+            Some
+            (record {
               id = 0x200;
               payload =
                   record {
                     len = 7;
                     bytes = c.settings.unit ∷ 0xC0 ∷ 0x00 ∷ 0x10 ∷ c.settings.receive % 256 ∷ c.settings.receive / 256 % 8 ∷ 0x01 ∷ 0 ∷ [];
                   };
-            }
-            );
+            });
         left = asked;
       }
   unfolding due_of request_due request_for

@@ -26,7 +26,8 @@ use telegram::time::less;
 
 pub mod attempt;
 
-// The phases: closed, C0 unanswered, A0 unanswered, open.
+// The phases: closed, C0 unanswered, A0 unanswered, open. They are numbers, and no enum, since the calls and the claims of
+// connection_rows and reachable are of a record at any phase, as `is_open` says.
 pub const CLOSED: u8 = 0;
 
 pub const REQUESTING: u8 = 1;
@@ -215,15 +216,8 @@ impl Connection {
                 channel::Answer::Disconnected,
             ),
             Telegram::Malformed => self.gives(channel::Answer::Malformed),
-            Telegram::Data {
-                asks: _,
-                last: _,
-                number: _,
-            } => self.gives(channel::Answer::NotDue),
-            Telegram::Ack {
-                ready: _,
-                number: _,
-            } => self.gives(channel::Answer::NotDue),
+            Telegram::Data { .. } => self.gives(channel::Answer::NotDue),
+            Telegram::Ack { .. } => self.gives(channel::Answer::NotDue),
             Telegram::Test => self.gives(channel::Answer::NotDue),
             Telegram::Break => self.gives(channel::Answer::NotDue),
             Telegram::Setup(_) => self.gives(channel::Answer::NotDue),
@@ -295,11 +289,8 @@ impl Connection {
         ensures value { result ≡ on_open longest self telegram bytes.now (length buffer.old) }
         ensures buffer_after { buffer.new ≡ buffered_at longest self.end telegram bytes.now buffer.old }
     {
-        let end = self.end;
-        let r = end.arrive(telegram, bytes, buffer);
-        let answer = r.answer;
-        let next = r.end;
-        self.settled(course_of(answer), next).gives(answer)
+        let open_end::Answered { answer, end } = self.end.arrive(telegram, bytes, buffer);
+        self.settled(course_of(answer), end).gives(answer)
     }
 
     // What an answer of the open end leaves of the record.
@@ -334,11 +325,8 @@ impl Connection {
     fn open_elapses(self, tenths: u64) -> Answered<Connection>
         ensures { result ≡ open_elapsed self tenths }
     {
-        let end = self.end;
-        let r = end.elapse(tenths);
-        let answer = r.answer;
-        let next = r.end;
-        self.settled(course_of(answer), next).gives(answer)
+        let open_end::Answered { answer, end } = self.end.elapse(tenths);
+        self.settled(course_of(answer), end).gives(answer)
     }
 
     // Time passes while a reply is awaited.
@@ -453,11 +441,8 @@ impl Connection {
     fn open_sends(mut self, len: usize) -> Answered<Connection>
         ensures { result ≡ open_sent longest self len }
     {
-        let end = self.end;
-        let r = end.send(len);
-        let answer = r.answer;
-        let next = r.end;
-        self.end = next;
+        let open_end::Answered { answer, end } = self.end.send(len);
+        self.end = end;
         self.gives(answer)
     }
 
@@ -475,12 +460,12 @@ impl Connection {
     fn open_takes(mut self, room: usize) -> TakeStep<Connection>
         ensures { result ≡ open_taken self room }
     {
-        let end = self.end;
-        let t = end.take_step(room);
-        let answer = t.answer;
-        let message = t.message;
-        let next = t.end;
-        self.end = next;
+        let open_end::TakeStep {
+            answer,
+            message,
+            end,
+        } = self.end.take_step(room);
+        self.end = end;
         self.shows(answer, message)
     }
 
@@ -501,16 +486,6 @@ impl Connection {
     fn is_open(self) -> bool
         ensures { result ≡ is_open self }
     {
-        let phase = self.phase;
-        if phase == CLOSED {
-            return false;
-        }
-        if phase == REQUESTING {
-            return false;
-        }
-        if phase == AGREEING {
-            return false;
-        }
-        true
+        !((self.phase == CLOSED) | (self.phase == REQUESTING) | (self.phase == AGREEING))
     }
 }

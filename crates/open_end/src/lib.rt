@@ -168,11 +168,13 @@ impl OpenEnd {
         ensures value { result ≡ arrived_at longest self telegram bytes.now (length buffer.old) }
         ensures buffer_after { buffer.new ≡ buffered_at longest self telegram bytes.now buffer.old }
     {
-        let ch = self.channel;
-        let r = arrival::arrive(ch, telegram, behind_first(bytes), buffer);
-        let answer = r.answer;
-        let next = r.channel;
-        self.channel = next;
+        let channel::Answered { answer, channel } = arrival::arrive(
+            self.channel,
+            telegram,
+            behind_first(bytes),
+            buffer,
+        );
+        self.channel = channel;
         Answered { answer, end: self }
     }
 
@@ -180,11 +182,8 @@ impl OpenEnd {
     pub fn elapse(mut self, tenths: u64) -> Answered
         ensures { result ≡ elapsed_at self tenths }
     {
-        let ch = self.channel;
-        let r = ch.elapse(tenths);
-        let answer = r.answer;
-        let next = r.channel;
-        self.channel = next;
+        let channel::Answered { answer, channel } = self.channel.elapse(tenths);
+        self.channel = channel;
         Answered { answer, end: self }
     }
 
@@ -209,11 +208,8 @@ impl OpenEnd {
     pub fn send(mut self, len: usize) -> Answered
         ensures { result ≡ sent_at longest self len }
     {
-        let ch = self.channel;
-        let r = ch.send(len);
-        let answer = r.answer;
-        let next = r.channel;
-        self.channel = next;
+        let channel::Answered { answer, channel } = self.channel.send(len);
+        self.channel = channel;
         Answered { answer, end: self }
     }
 

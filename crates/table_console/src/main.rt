@@ -346,13 +346,7 @@ impl Console {
         let told = due.told;
         let frame = due.frame;
         let next = due.left;
-        self.telling(
-            rt,
-            next,
-            Carried::handing(told.said, frame),
-            &[],
-            text,
-        )
+        self.telling(rt, next, Carried::handing(told.said, frame), &[], text)
     }
 
     fn taken<R: Print + Eprint>(

@@ -163,12 +163,11 @@ pub due_of-accepting : (c : ControlUnit) (m : List ℕ) → c.phase ≡ 5
     ≡ record {
       told = plainly Good 0;
       frame =
-          Some (
-          record {
+          Some
+          (record {
             id = c.end.transmit;
             payload = record { len = 6; bytes = 0xA1 ∷ c.settings.block ∷ c.settings.t1 ∷ 0xFF ∷ c.settings.t3 ∷ 0xFF ∷ 0 ∷ 0 ∷ [] };
-          }
-          );
+          });
       left = record { phase = 6; reply = c.reply; settings = c.settings; end = c.end };
     }
 unfolding due_of

@@ -26,7 +26,8 @@ use telegram::kinds::{
     Parameters as Fields, Telegram, bad_block, sort, write_accept, write_disconnect,
 };
 
-// The phases: closed with nothing, with one A8 or with a refusal due; the D0 due; the D0 out; the A1 due; open.
+// The phases: closed with nothing, with one A8 or with a refusal due; the D0 due; the D0 out; the A1 due; open. They are
+// numbers, and no enum, since the calls and the claim of unit_rows are of a unit at any phase, as `is_open` says.
 pub const CLOSED: u8 = 0;
 
 pub const LEAVING: u8 = 1;
@@ -225,15 +226,8 @@ impl ControlUnit {
             Telegram::Setup(fields) => self.on_setup(fields),
             Telegram::Disconnect => self.leaving_of().gives(channel::Answer::Disconnected),
             Telegram::Malformed => self.gives(channel::Answer::Malformed),
-            Telegram::Data {
-                asks: _,
-                last: _,
-                number: _,
-            } => self.gives(channel::Answer::NotDue),
-            Telegram::Ack {
-                ready: _,
-                number: _,
-            } => self.gives(channel::Answer::NotDue),
+            Telegram::Data { .. } => self.gives(channel::Answer::NotDue),
+            Telegram::Ack { .. } => self.gives(channel::Answer::NotDue),
             Telegram::Test => self.gives(channel::Answer::NotDue),
             Telegram::Break => self.gives(channel::Answer::NotDue),
             Telegram::Accept(_) => self.gives(channel::Answer::NotDue),
@@ -279,11 +273,8 @@ impl ControlUnit {
         ensures value { result ≡ at_end longest self telegram bytes.now (length buffer.old) }
         ensures buffer_after { buffer.new ≡ buffered_at longest self.end telegram bytes.now buffer.old }
     {
-        let end = self.end;
-        let r = end.arrive(telegram, bytes, buffer);
-        let answer = r.answer;
-        let next = r.end;
-        self.settled(course_of(answer), next).gives(answer)
+        let open_end::Answered { answer, end } = self.end.arrive(telegram, bytes, buffer);
+        self.settled(course_of(answer), end).gives(answer)
     }
 
     // What an answer of the open end leaves of the unit.
@@ -314,11 +305,8 @@ impl ControlUnit {
     fn open_elapses(self, tenths: u64) -> Answered<ControlUnit>
         ensures { result ≡ open_elapsed self tenths }
     {
-        let end = self.end;
-        let r = end.elapse(tenths);
-        let answer = r.answer;
-        let next = r.end;
-        self.settled(course_of(answer), next).gives(answer)
+        let open_end::Answered { answer, end } = self.end.elapse(tenths);
+        self.settled(course_of(answer), end).gives(answer)
     }
 
     // What is due: at most one frame, the message in sending being lent.
@@ -394,11 +382,8 @@ impl ControlUnit {
     fn open_sends(mut self, len: usize) -> Answered<ControlUnit>
         ensures { result ≡ open_sent longest self len }
     {
-        let end = self.end;
-        let r = end.send(len);
-        let answer = r.answer;
-        let next = r.end;
-        self.end = next;
+        let open_end::Answered { answer, end } = self.end.send(len);
+        self.end = end;
         self.gives(answer)
     }
 
@@ -416,12 +401,12 @@ impl ControlUnit {
     fn open_takes(mut self, room: usize) -> TakeStep<ControlUnit>
         ensures { result ≡ open_taken self room }
     {
-        let end = self.end;
-        let t = end.take_step(room);
-        let answer = t.answer;
-        let message = t.message;
-        let next = t.end;
-        self.end = next;
+        let open_end::TakeStep {
+            answer,
+            message,
+            end,
+        } = self.end.take_step(room);
+        self.end = end;
         self.shows(answer, message)
     }
 

@@ -42,10 +42,10 @@ pub returns-then-not-wait_ends : goal.returns-then-not-wait_ends
 returns-then-not-wait_ends c = search runs_on
 
 pub overflow_add-tests : goal.overflow_add-tests
-overflow_add-tests c = record { fits = one-more-fits _ _ c.if-unanswered-allowed.true (omega arith) }
+overflow_add-tests c = record { fits = one-more-fits _ _ c.if-tests-self.true (omega arith) }
 
-pub returns-then-unanswered-allowed : goal.returns-then-unanswered-allowed
-returns-then-unanswered-allowed c = search one_more
+pub returns-then-tests-self : goal.returns-then-tests-self
+returns-then-tests-self c = search one_more
 
 pub returns : goal.returns
 returns c = search tests-out

@@ -2,9 +2,9 @@ use borrow.Author.Rules.{rules}
 use Rattle.channel.specs.Opened.{hand_ack}
 use Rattle.channel.proofs.Channel.hand_ack.Goals as goal
 
-pub hand_ack-next-requires : goal.hand_ack-next-requires
+pub hand_ack-self-requires : goal.hand_ack-self-requires
 unfolding hand_ack
-hand_ack-next-requires c = search rules
+hand_ack-self-requires c = search rules
 
 pub write_ack-requires : goal.write_ack-requires
 unfolding hand_ack
@@ -16,4 +16,4 @@ hand_over-requires c = search rules
 
 pub returns : goal.returns
 unfolding hand_ack
-returns c = rw (c.hand_over.ensures, c.write_ack.ensures, c.hand_ack-next.ensures)
+returns c = rw (c.hand_over.ensures, c.write_ack.ensures, c.hand_ack-self.ensures)

@@ -2,9 +2,9 @@ use Rattle.connection.specs.Calls.{open_sent}
 use borrow.Author.Rules.{rules}
 use Rattle.connection.proofs.Connection.open_sends.Goals as goal
 
-pub send-r-requires : goal.send-r-requires
+pub send-answer-requires : goal.send-answer-requires
 unfolding open_sent
-send-r-requires c = search rules
+send-answer-requires c = search rules
 
 pub gives-requires : goal.gives-requires
 unfolding open_sent
@@ -12,4 +12,4 @@ gives-requires c = search rules
 
 pub returns : goal.returns
 unfolding open_sent
-returns c = rw (c.gives.ensures, c.send-r.ensures)
+returns c = rw (c.gives.ensures, c.send-answer.ensures)

@@ -2,9 +2,9 @@ use Rattle.unit.specs.Calls.{open_taken}
 use borrow.Author.Rules.{rules}
 use Rattle.unit.proofs.ControlUnit.open_takes.Goals as goal
 
-pub take_step-t-requires : goal.take_step-t-requires
+pub take_step-answer-requires : goal.take_step-answer-requires
 unfolding open_taken
-take_step-t-requires c = search rules
+take_step-answer-requires c = search rules
 
 pub shows-requires : goal.shows-requires
 unfolding open_taken
@@ -12,4 +12,4 @@ shows-requires c = search rules
 
 pub returns : goal.returns
 unfolding open_taken
-returns c = rw (c.shows.ensures, c.take_step-t.ensures)
+returns c = rw (c.shows.ensures, c.take_step-answer.ensures)
