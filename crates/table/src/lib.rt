@@ -24,6 +24,8 @@ pub struct Table {
     pub places: [Connection; PLACES],
 }
 
+// Each call has a result of its own, since each tells something else beside the table.
+
 // What an opening tells, the place that it took, if it took one, and the table that it leaves.
 #[derive(Clone, Copy)]
 pub struct Opened {

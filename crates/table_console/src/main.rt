@@ -17,7 +17,7 @@ use table::{Arrived, PLACES, Table};
 use text::reading::Number;
 use text::{reading, writing};
 
-// What is kept from line to line, beside the buffers and the messages that main makes.
+// What is kept from line to line, beside what is lent.
 #[derive(Clone, Copy)]
 struct Console {
     table: Table,
@@ -42,28 +42,35 @@ const OPEN: u64 = 0x6F70656E;
 
 const OWNER: u64 = 0x6F776E6572;
 
-fn main(rt: HostRuntime) {
+// What every call is lent.
+#[derive(Drop)]
+struct Lent {
     // A line, one character too many, and a CR behind it; its answer takes its place.
-    let mut text = [0; 16002];
-    let mut bytes = [0; 8192];
-    let mut buffers = [0; 32768];
-    let mut messages = [0; 32768];
-    talk(&rt, &mut text, &mut bytes, &mut buffers, &mut messages);
+    text: [u8; 16002],
+    // The bytes that a line gives.
+    bytes: [u8; 8192],
+    // The buffer of each place, and the message last accepted there.
+    buffers: [u8; 32768],
+    messages: [u8; 32768],
+}
+
+fn main(rt: HostRuntime) {
+    talk(&rt);
 }
 
 // Reads and answers until the input ends or an answer cannot be written. The count of turns is more than any run uses up.
-fn talk<R: Input + Print + Eprint>(
-    rt: &R,
-    text: &mut [u8],
-    bytes: &mut [u8],
-    buffers: &mut [u8],
-    messages: &mut [u8],
-) {
+fn talk<R: Input + Print + Eprint>(rt: &R) {
+    let mut lent = Lent {
+        text: [0; 16002],
+        bytes: [0; 8192],
+        buffers: [0; 32768],
+        messages: [0; 32768],
+    };
     let mut c = anew(Session::fresh());
     let mut turns = u64::MAX;
     while 0 < turns {
         turns -= 1;
-        c = c.turn(rt, text, bytes, buffers, messages);
+        c = c.turn(rt, &mut lent);
         let session = c.session;
         turns = session.turns_left(turns);
     }
@@ -107,33 +114,22 @@ impl Console {
     }
 
     // Reads a line and answers it; it is understood whole before anything is done.
-    fn turn<R: Input + Print + Eprint>(
-        self,
-        rt: &R,
-        text: &mut [u8],
-        bytes: &mut [u8],
-        buffers: &mut [u8],
-        messages: &mut [u8],
-    ) -> Console {
-        let line = read_line(rt, text);
-        let fill = line.fill;
-        let asked = read_asked(shown(text, fill), bytes);
+    fn turn<R: Input + Print + Eprint>(self, rt: &R, lent: &mut Lent) -> Console {
+        let line = read_line(rt, &mut lent.text);
+        let asked = read_asked(shown(&lent.text, line.fill), &mut lent.bytes);
         let session = self.session;
         self.with(session.next_line(line.ended))
-            .run(rt, asked, fill, text, bytes, buffers, messages)
+            .run(rt, asked, line.fill, lent)
     }
 
     // Runs the call that a line of fill characters asks for.
-    fn run<R: Print + Eprint>(
-        self,
-        rt: &R,
-        asked: Asked,
-        fill: usize,
-        text: &mut [u8],
-        bytes: &[u8],
-        buffers: &mut [u8],
-        messages: &mut [u8],
-    ) -> Console {
+    fn run<R: Print + Eprint>(self, rt: &R, asked: Asked, fill: usize, lent: &mut Lent) -> Console {
+        let Lent {
+            text,
+            bytes,
+            buffers,
+            messages,
+        } = lent;
         let table = self.table;
         let session = self.session;
         let place = asked.place;
