@@ -151,7 +151,6 @@ fn out_of_range_if(beyond: bool, mut settings: Settings) -> Settings
 {
     if beyond {
         settings.receive = 65535;
-        return settings;
     }
     settings
 }

@@ -57,17 +57,10 @@ pub fn hexadecimal(s: &[u8]) -> Result<u64, NumberError>
     in_base(s, 16)
 }
 
-// The same as the number that it is.
-fn value(c: u8) -> u64
-    ensures { result ≡ digit_of c }
-{
-    digit(c) as u64
-}
-
 fn is_digit(c: u8, base: u64) -> bool
     ensures { result ≡ is_digit base c }
 {
-    value(c) < base
+    u64::from(digit(c)) < base
 }
 
 fn in_base(s: &[u8], base: u64) -> Result<u64, NumberError>
@@ -79,7 +72,7 @@ fn in_base(s: &[u8], base: u64) -> Result<u64, NumberError>
     }
     let mut n: u64 = 0;
     for (i, c) in s.iter().enumerate() {
-        let d = value(*c);
+        let d = u64::from(digit(*c));
         if base <= d {
             return Err(NumberError::Bad);
         }
