@@ -269,6 +269,7 @@ impl Tally {
     }
 }
 
+// As `eight` tells it: one for both would be a public function of `text`, for no more than these four names.
 fn tell<R: Print + Eprint>(rt: &R, tally: Tally) {
     let Tally {
         messages,
