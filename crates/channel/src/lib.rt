@@ -12,7 +12,8 @@ ghost use Rattle.channel.specs.Numbers.{plain, said};
 ghost use Rattle.channel.specs.Opened.{fresh, restarted, offer_answer, wait_ends, later, repeats_used_up, went, elapsed, test_due, hand_over, hand_nothing, hand_accept, hand_test, hand_ack, hand_data, due, sent};
 
 use receiver::{Cause, Receiver};
-Xuse telegram::kinds::{write_accept, write_ack, write_test};
+use sender::{Handed, Handing, OfferError, Offered, Passed, Passing, Sender, Terms};
+use telegram::kinds::{write_accept, write_ack, write_test};
 use telegram::payload::Payload;
 use telegram::time::less;
 
