@@ -1,7 +1,8 @@
--- What a tool says on standard error of a word that is wrong, and of a file that cannot be opened.
+-- What a tool says on standard error of a word that is wrong, and of a log that cannot be opened or read.
 use Rattle.std.specs.Prelude.{ℕ, ◌||◌, List, [], ◌∷◌, ◌++◌, length, ltb, eqb, if◌then◌else◌, Option, None, Some}
 use Rattle.laws.specs.Characters.{ascii}
-use Rattle.text.specs.Written.{decimal_of}
+use Rattle.text.specs.Written.{Writes, decimal_of}
+use Rattle.log_tools.specs.Failures.{error_text}
 use Rattle.log_tools.specs.declared.options.Name.TheVariants.{Room, Chunk, Places}
 use Rattle.log_tools.specs.declared.options.Fault.{Fault}
 use Rattle.log_tools.specs.declared.options.Fault.TheVariants.{NoOption, Twice, NoNumber, SecondFile}
@@ -44,3 +45,12 @@ refusal_line tool wrong w = title_of tool ++ fault_text wrong.fault ++ word_at w
 -- a file that cannot be opened; why, and the line's end, come behind it
 unfoldable pub unopened_text : (tool : List ℕ) → (place : ℕ) → (name : List ℕ) → List ℕ
 unopened_text tool place name = title_of tool ++ ascii "cannot open " ++ shown_word place name
+
+-- a log that cannot be read to its end, and what the system says of that, on a line
+abbrev pub unread_line : (tool said : List ℕ) → List ℕ
+unread_line tool said = title_of tool ++ ascii "cannot read the log" ++ error_text said
+
+-- a text before and after that is written: what the system says it alone knows
+pub record WritesUnread (old : List ℕ) (at : ℕ) (tool new : List ℕ) (next : ℕ) : Type 0 where
+  pub said : List ℕ
+  pub written : Writes old at (unread_line tool said) new next

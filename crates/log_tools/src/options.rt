@@ -1,7 +1,7 @@
 // The words that a tool is started with: `[--room N] [--chunk N] [FILE]`, and `[--places N]` before them for a tool that makes a
 // list; options in any order before the file, each at most once. They are taken one by one; the first that is wrong is kept,
 // with what is wrong about it.
-ghost use Rattle.std.specs.Prelude.{◌≡◌};
+ghost use Rattle.std.specs.Prelude.{◌≡◌, take};
 ghost use Rattle.log_tools.specs.Options.{is_option, fresh, takes, default_of, given, number_for, refused, awaiting, numbered, named, option_named, on_number, on_option, word_taken, held_taken, words_ended};
 
 use telegram::cutting::LONGEST;
@@ -51,6 +51,14 @@ pub struct Options {
     pub file: Option<usize>,
     // The first word that is wrong.
     pub wrong: Option<Wrong>,
+}
+
+// Lends so much of a buffer, as far as it goes.
+pub fn lend<T>(buffer: &mut [T], length: usize) -> &mut [T]
+    ensures { result.now ≡ take length buffer.old }
+{
+    let end = length.min(buffer.len());
+    &mut buffer[..end]
 }
 
 fn is_option(word: &[u8]) -> bool
