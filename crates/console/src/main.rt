@@ -7,11 +7,12 @@ use connection::{Answered, Arrived, Connection, Due, TakeStep};
 use dialogue::answers::Carried;
 use dialogue::calls::{Call, read_call};
 use dialogue::lines::read_line;
-use dialogue::numbers::{Opening, read_opening};
+use dialogue::numbers::read_opening;
 use dialogue::rows::{Opening16, read_opening_16};
 use dialogue::session::{Session, clear};
 use dialogue::words::behind_word;
 use open_end::shown;
+use settings::Settings;
 use text::writing;
 
 // What is kept from line to line, beside the buffers that main makes.
@@ -135,22 +136,32 @@ impl Console {
         self.with(session.wrong(rt, text))
     }
 
-    fn opened<R: Print + Eprint>(self, rt: &R, opening: Opening, text: &mut [u8]) -> Console {
+    fn opened<R: Print + Eprint>(
+        self,
+        rt: &R,
+        opening: Option<Settings>,
+        text: &mut [u8],
+    ) -> Console {
         let connection = self.connection;
         let session = self.session;
         match opening {
-            Opening::Wrong => self.with(session.wrong(rt, text)),
-            Opening::With(settings) => self.answered(rt, connection.open(settings), text),
+            None => self.with(session.wrong(rt, text)),
+            Some(settings) => self.answered(rt, connection.open(settings), text),
         }
     }
 
     // The same in a row of TP 1.6.
-    fn opened_16<R: Print + Eprint>(self, rt: &R, opening: Opening16, text: &mut [u8]) -> Console {
+    fn opened_16<R: Print + Eprint>(
+        self,
+        rt: &R,
+        opening: Option<Opening16>,
+        text: &mut [u8],
+    ) -> Console {
         let connection = self.connection;
         let session = self.session;
         match opening {
-            Opening16::Wrong => self.with(session.wrong(rt, text)),
-            Opening16::As { profile, settings } => {
+            None => self.with(session.wrong(rt, text)),
+            Some(Opening16 { profile, settings }) => {
                 self.answered(rt, connection.open_as(profile, settings), text)
             }
         }

@@ -21,7 +21,6 @@
 // (777 + SEED + 4999 * r) mod 65536, and the far end's is 12345 more, mod 65536: end.rt has the messages.
 use crate::end::{End, FRAME, Sent, TAKE, Tally, plus};
 use std::num::wrapping_add_usize;
-use text::reading::Number;
 use text::{reading, writing};
 
 // The most calls of a run.
@@ -95,11 +94,11 @@ fn read(line: &[u8]) -> Asked {
         return Asked::Wrong;
     }
     let seed = reading::decimal(reading::part(line, first.start, first.end));
-    let Number::Value(seed) = seed else {
+    let Ok(seed) = seed else {
         return Asked::Wrong;
     };
     let calls = reading::decimal(reading::part(line, second.start, second.end));
-    let Number::Value(calls) = calls else {
+    let Ok(calls) = calls else {
         return Asked::Wrong;
     };
     if MOST < calls {

@@ -1,35 +1,27 @@
 -- Numbers, word by word, and turns.
---     read, all-given          a word that was cut out, and eleven of them
+--     all-given                eleven words that were cut out
 --     fits_byte, fits_word     what was read fits its setting
 --     is-refused               and what does not makes settings out of range
 --     no_more                  turns never become more
-use Rattle.std.proofs.Common.{◌≡◌, ℕ, suc, ◌-◌, ◌≤◌, true, false, List, [], ◌∷◌, map, get_or, take, drop, replicate, refl, ◌∙◌, arith, w8, w16, Fits}
+use Rattle.std.proofs.Common.{◌≡◌, ℕ, suc, ◌≤◌, true, false, List, [], ◌∷◌, map, get_or, replicate, refl, ◌∙◌, arith, w8, w16, Fits}
 use Rattle.laws.proofs.Cases.{by, by-lt}
 use Rattle.profile.specs.Profile.{within, tp20, drive, comfort, high, low}
 use Rattle.profile.specs.declared.Profile.{Profile}
 use Rattle.settings.specs.Settings.{allowed_by}
 use Rattle.settings.specs.declared.Settings.{Settings}
-use Rattle.text.specs.Numbers.{number_of}
-use Rattle.text.specs.Words.{word_from}
-use Rattle.text.specs.declared.reading.Number.{Number}
-use Rattle.text.specs.declared.reading.Number.TheVariants.{Value, TooLarge, Bad}
-use Rattle.text.specs.declared.reading.Span.{Span}
+use Rattle.std.specs.Prelude.{Result, Ok, Err}
+use Rattle.text.specs.declared.reading.NumberError.{NumberError}
+use Rattle.text.specs.declared.reading.NumberError.TheVariants.{TooLarge, Bad}
 use Rattle.dialogue.specs.declared.numbers.Numbers.{Numbers}
 use Rattle.dialogue.specs.declared.session.Session.{Session}
-use Rattle.dialogue.specs.Words.{word_at}
 use Rattle.dialogue.specs.Session.{turns_left}
 use Rattle.dialogue.specs.Numbers.{no_numbers, with_number, next_number, largest, after_words, out_of_range_if, given_by}
 
-pub read : (n : Numbers) (s p : List ℕ) (w : Span) (d : Number) (most : ℕ) (r : Numbers)
-    → w ≡ word_from s n.at → p ≡ take (w.end - w.start) (drop w.start s) → d ≡ number_of 10 p → r ≡ with_number n w.end most d → r ≡ next_number n s most
-unfolding next_number word_at
-read n s p w d most r e f g h = h ∙ rw (g, f, e)
-
-holds : (n : Numbers) (at most : ℕ) (d : Number) → (with_number n at most d).value ≤ most
+holds : (n : Numbers) (at most : ℕ) (d : Result ℕ NumberError) → (with_number n at most d).value ≤ most
 unfolding with_number
-holds n at most (Value v) = by-lt (λ (r : Numbers). r.value ≤ most) most v (λ l. omega arith) (λ l. l)
-holds n at most TooLarge = omega arith
-holds n at most Bad = omega arith
+holds n at most (Ok v) = by-lt (λ (r : Numbers). r.value ≤ most) most v (λ l. omega arith) (λ l. l)
+holds n at most (Err TooLarge) = omega arith
+holds n at most (Err Bad) = omega arith
 
 held : (n r : Numbers) (s : List ℕ) (most : ℕ) → r ≡ next_number n s most → r.value ≤ most
 unfolding next_number

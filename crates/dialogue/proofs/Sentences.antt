@@ -1,5 +1,5 @@
 -- Texts that are said.
-use Rattle.std.proofs.Common.{◌≡◌, ℕ, suc, ◌+◌, ◌-◌, ◌<◌, ◌≤◌, leb, List, [], ◌∷◌, ◌++◌, length, get_or, take, drop, replicate, sym, refl, ◌∙◌, append_assoc, append-nil, le_refl, arith, length-drop, get_or-drop, take_all, take-suc, leb-false, leb-true}
+use Rattle.std.proofs.Common.{◌≡◌, ℕ, ◌+◌, ◌-◌, ◌<◌, ◌≤◌, leb, List, [], ◌∷◌, ◌++◌, length, get_or, take, drop, replicate, sym, refl, ◌∙◌, add-one, append_assoc, append-nil, le_refl, arith, take_all, take-suc, leb-false, leb-true}
 use lib.Seq.{drop-length}
 use Rattle.laws.proofs.Cases.{either}
 use Rattle.text.specs.Written.{Writes, pair_of, pairs_of, id_of}
@@ -36,21 +36,17 @@ unfolding saids_of
 saids_of-one a = append-nil (32 ∷ said_of a)
 
 module _ (s : List Said) (i : ℕ) (d : Said) where
-  said-next : 1 ≤ i → i < length s → saids_of (take (i + 1 - 1) (drop 1 s)) ≡ saids_of (take (i - 1) (drop 1 s)) ++ ((32 ∷ []) ++ said_of (get_or s i d))
-  said-next l h =
-      let e : i + 1 - 1 ≡ suc (i - 1) = omega arith in
-      let k : 1 + (i - 1) ≡ i = omega arith in
-      let m : i - 1 < length (drop 1 s) = simp length-drop (omega arith) in
-      rw (e, take-suc (drop 1 s) (i - 1) d m, saids_of-append, get_or-drop 1 s (i - 1) d, k, saids_of-one)
+  said-next : i < length s → saids_of (take (i + 1) s) ≡ saids_of (take i s) ++ ((32 ∷ []) ++ said_of (get_or s i d))
+  said-next h = rw (add-one i, take-suc s i d h, saids_of-append, saids_of-one)
 
-  pub said_more : (b : List ℕ) (at : ℕ) (b₁ b₂ b₃ : List ℕ) (n₁ n₂ n₃ : ℕ) → Writes b at (saids_of (take (i - 1) (drop 1 s))) b₁ n₁ → Writes b₁ n₁ (32 ∷ []) b₂ n₂ → Writes b₂ n₂ (said_of (get_or s i d)) b₃ n₃
-      → 1 ≤ i → i < length s → Writes b at (saids_of (take (i + 1 - 1) (drop 1 s))) b₃ n₃
-  said_more b at b₁ b₂ b₃ n₁ n₂ n₃ p q r l h = joined b at _ _ _ b₁ b₃ n₁ n₃ p (then q r) (sym (said-next l h))
+  pub said_more : (b : List ℕ) (at : ℕ) (b₁ b₂ b₃ : List ℕ) (n₁ n₂ n₃ : ℕ) → Writes b at (saids_of (take i s)) b₁ n₁ → Writes b₁ n₁ (32 ∷ []) b₂ n₂ → Writes b₂ n₂ (said_of (get_or s i d)) b₃ n₃
+      → i < length s → Writes b at (saids_of (take (i + 1) s)) b₃ n₃
+  said_more b at b₁ b₂ b₃ n₁ n₂ n₃ p q r h = joined b at _ _ _ b₁ b₃ n₁ n₃ p (then q r) (sym (said-next h))
 
-pub said_each : (s : List Said) (d : Said) (i : ℕ) → 1 ≤ length s → length s ≤ i → said_of (get_or s 0 d) ++ saids_of (take (i - 1) (drop 1 s)) ++ 10 ∷ [] ≡ each_of s
+pub said_each : (s : List Said) (d : Said) (m i : ℕ) → 1 ≤ length s → length s ≤ m + 1 → length (take m (drop 1 s)) ≤ i → said_of (get_or s 0 d) ++ saids_of (take i (take m (drop 1 s))) ++ 10 ∷ [] ≡ each_of s
 unfolding each_of
-said_each [] d i l h = absurd (omega arith)
-said_each (a ∷ s) d i l h = rw (take_all (i - 1) s (omega arith))
+said_each [] d m i l h k = absurd (omega arith)
+said_each (a ∷ s) d m i l h k = rw (take_all i (take m s) k, take_all m s (omega arith))
 
 -- a buffer that was filled to its end
 pub filled : (d : List ℕ) (n : ℕ) → n ≡ length d → replicate n 0 ++ drop n d ≡ replicate (length d) 0

@@ -1,5 +1,5 @@
 -- Answers as lines: an answer's number and, behind it, what it carries, with one blank between.
-use Rattle.std.specs.Prelude.{ℕ, ◌%◌, Bool, false, List, [], ◌∷◌, ◌++◌, take, ◌==◌, if◌then◌else◌}
+use Rattle.std.specs.Prelude.{ℕ, ◌%◌, Bool, false, List, [], ◌∷◌, ◌++◌, Option, Some, None, take, ◌==◌}
 use Rattle.text.specs.Written.{if_given, pair_of, pairs_of, id_of, flags_of, decimal_of}
 use Rattle.open_end.specs.OpenEnd.{no_frame}
 use Rattle.open_end.specs.declared.Frame.{Frame}
@@ -62,8 +62,9 @@ each_of [] = 10 ∷ []
 each_of (s ∷ more) = said_of s ++ saids_of more ++ 10 ∷ []
 
 -- a place, and - for none
-unfoldable pub owner_of : (named : Bool) → (place : ℕ) → List ℕ
-owner_of named place = if named then decimal_of place ++ 10 ∷ [] else 45 ∷ 10 ∷ []
+unfoldable pub owner_of : (place : Option ℕ) → List ℕ
+owner_of (Some place) = decimal_of place ++ 10 ∷ []
+owner_of None = 45 ∷ 10 ∷ []
 
 -- the answer to a call that no record is asked for
 abbrev pub zero_line : List ℕ

@@ -1,9 +1,7 @@
 -- What a line asks for: the calls that every record has.
-use Rattle.std.specs.Prelude.{ℕ, ◌%◌, Bool, ◌||◌, List, length, ◌==◌, nat_lt, slice_index, if◌then◌else◌}
-use Rattle.text.specs.declared.reading.Number.{Number}
-use Rattle.text.specs.declared.reading.Number.TheVariants.{Value, TooLarge, Bad as NoNumber}
-use Rattle.text.specs.declared.reading.Bytes.{Bytes}
-use Rattle.text.specs.declared.reading.Bytes.TheVariants.{Count, TooMany, Bad as NoBytes}
+use Rattle.std.specs.Prelude.{ℕ, ◌%◌, Bool, ◌||◌, List, Result, Ok, Err, length, ◌==◌, nat_lt, slice_index, if◌then◌else◌}
+use Rattle.text.specs.declared.reading.NumberError.{NumberError}
+use Rattle.text.specs.declared.reading.PairsError.{PairsError}
 use Rattle.dialogue.specs.declared.calls.Call.{Call}
 use Rattle.dialogue.specs.declared.calls.Call.TheVariants.{Nothing, Wrong, New, Frame, Time, Due, DueOf, Send, Take, Close, Room, Buffer, Other}
 use Rattle.dialogue.specs.Words.{word_at, behind_word, is_lone, letters_of, only_number, id_read, octets_read, octets_into}
@@ -49,36 +47,30 @@ alone_of name =
 
 -- ---- the calls with further words
 
-unfoldable pub time_of : Number → Call
-time_of (Value n) = Time n
-time_of TooLarge = Wrong
-time_of NoNumber = Wrong
+unfoldable pub time_of : Result ℕ NumberError → Call
+time_of (Ok n) = Time n
+time_of (Err e) = Wrong
 
 -- up to 4,096 bytes can be lent
-unfoldable pub room_of : Number → Call
-room_of (Value n) = if nat_lt 4096 n then Wrong else Room n
-room_of TooLarge = Wrong
-room_of NoNumber = Wrong
+unfoldable pub room_of : Result ℕ NumberError → Call
+room_of (Ok n) = if nat_lt 4096 n then Wrong else Room n
+room_of (Err e) = Wrong
 
-unfoldable pub due_of : Bytes → Call
-due_of (Count n) = DueOf n
-due_of TooMany = Wrong
-due_of NoBytes = Wrong
+unfoldable pub due_of : Result ℕ PairsError → Call
+due_of (Ok n) = DueOf n
+due_of (Err e) = Wrong
 
-unfoldable pub send_of : Bytes → Call
-send_of (Count n) = Send n
-send_of TooMany = Wrong
-send_of NoBytes = Wrong
+unfoldable pub send_of : Result ℕ PairsError → Call
+send_of (Ok n) = Send n
+send_of (Err e) = Wrong
 
-abbrev pub frame_with : ℕ → Bytes → Call
-frame_with id (Count n) = Frame id n
-frame_with id TooMany = Wrong
-frame_with id NoBytes = Wrong
+abbrev pub frame_with : ℕ → Result ℕ PairsError → Call
+frame_with id (Ok n) = Frame id n
+frame_with id (Err e) = Wrong
 
-unfoldable pub frame_of : Number → Bytes → Call
-frame_of (Value n) b = frame_with (n % 65536) b
-frame_of TooLarge b = Wrong
-frame_of NoNumber b = Wrong
+unfoldable pub frame_of : Result ℕ NumberError → Result ℕ PairsError → Call
+frame_of (Ok n) b = frame_with (n % 65536) b
+frame_of (Err e) b = Wrong
 
 -- a name and the words behind it, with room for so many bytes
 unfoldable pub followed_of : ℕ → ℕ → List ℕ → Call

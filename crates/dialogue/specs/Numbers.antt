@@ -1,15 +1,13 @@
 -- Settings as words, one decimal number each.
-use Rattle.std.specs.Prelude.{ℕ, zero, suc, Bool, true, false, List, [], ◌∷◌, length, ◌==◌, nat_le, nat_lt, slice_index, if◌then◌else◌}
+use Rattle.std.specs.Prelude.{ℕ, zero, suc, Bool, true, false, List, [], ◌∷◌, Option, Some, None, Result, Ok, Err, length, ◌==◌, nat_le, nat_lt, slice_index, if◌then◌else◌}
 use Rattle.text.specs.Numbers.{number_of}
 use Rattle.text.specs.Words.{word_from}
-use Rattle.text.specs.declared.reading.Number.{Number}
-use Rattle.text.specs.declared.reading.Number.TheVariants.{Value, TooLarge, Bad}
+use Rattle.text.specs.declared.reading.NumberError.{NumberError}
+use Rattle.text.specs.declared.reading.NumberError.TheVariants.{TooLarge, Bad}
 use Rattle.settings.specs.Settings.{defaults}
 use Rattle.settings.specs.declared.Settings.{Settings}
 use Rattle.dialogue.specs.declared.numbers.Numbers.{Numbers}
 use Rattle.dialogue.specs.declared.numbers.Given.{Given}
-use Rattle.dialogue.specs.declared.numbers.Opening.{Opening}
-use Rattle.dialogue.specs.declared.numbers.Opening.TheVariants.{Wrong, With}
 use Rattle.dialogue.specs.Words.{word_at}
 
 -- none read yet
@@ -21,11 +19,11 @@ abbrev pub with_beyond : Numbers → ℕ → Numbers
 with_beyond n at = record { at = at; bad = n.bad; beyond = true; value = 0 }
 
 -- a word was read, up to a place, for a setting that holds numbers up to most
-unfoldable pub with_number : Numbers → ℕ → ℕ → Number → Numbers
-with_number n at most (Value v) =
+unfoldable pub with_number : Numbers → ℕ → ℕ → Result ℕ NumberError → Numbers
+with_number n at most (Ok v) =
     if nat_lt most v then with_beyond n at else record { at = at; bad = n.bad; beyond = n.beyond; value = v }
-with_number n at most TooLarge = with_beyond n at
-with_number n at most Bad = record { at = at; bad = true; beyond = n.beyond; value = 0 }
+with_number n at most (Err TooLarge) = with_beyond n at
+with_number n at most (Err Bad) = record { at = at; bad = true; beyond = n.beyond; value = 0 }
 
 -- the next word is read
 unfoldable pub next_number : Numbers → List ℕ → ℕ → Numbers
@@ -83,10 +81,10 @@ given_by s = record {
   numbers = after_words 11 s;
 }
 
--- the settings of an opening: given ones where no word is given, and else those that all the words give
-unfoldable pub opening_with : Settings → List ℕ → Opening
-opening_with d s = if length s == 0 then With d else if are_all (given_by s).numbers s then With (given_by s).settings else Wrong
+-- the settings of an opening: given ones where no word is given, and else those that all the words give, if they do
+unfoldable pub opening_with : Settings → List ℕ → Option Settings
+opening_with d s = if length s == 0 then Some d else if are_all (given_by s).numbers s then Some (given_by s).settings else None
 
 -- with the defaults of TP 2.0
-abbrev pub opening_of : List ℕ → Opening
+abbrev pub opening_of : List ℕ → Option Settings
 opening_of s = opening_with defaults s

@@ -1,12 +1,12 @@
 -- What the words of a line say.
-use Rattle.std.specs.Prelude.{ℕ, ◌+◌, ◌-◌, ◌*◌, Bool, ◌&&◌, List, [], ◌∷◌, length, take, drop, ◌==◌, nat_lt, slice_index, if◌then◌else◌}
+use Rattle.std.specs.Prelude.{ℕ, ◌+◌, ◌-◌, ◌*◌, Bool, ◌&&◌, List, [], ◌∷◌, Result, Ok, Err, length, take, drop, ◌==◌, nat_lt, slice_index, if◌then◌else◌}
 use Rattle.text.specs.Numbers.{number_of}
 use Rattle.text.specs.Pairs.{pairs_read, pairs_into}
 use Rattle.text.specs.Words.{word_from}
-use Rattle.text.specs.declared.reading.Number.{Number}
-use Rattle.text.specs.declared.reading.Number.TheVariants.{Bad as NoNumber}
-use Rattle.text.specs.declared.reading.Bytes.{Bytes}
-use Rattle.text.specs.declared.reading.Bytes.TheVariants.{Count, Bad as NoBytes}
+use Rattle.text.specs.declared.reading.NumberError.{NumberError}
+use Rattle.text.specs.declared.reading.NumberError.TheVariants.{Bad as NoNumber}
+use Rattle.text.specs.declared.reading.PairsError.{PairsError}
+use Rattle.text.specs.declared.reading.PairsError.TheVariants.{Bad as NoPairs}
 
 -- the first word from a place on
 unfoldable pub word_at : List ℕ → ℕ → List ℕ
@@ -34,15 +34,15 @@ unfoldable pub only_word : List ℕ → List ℕ
 only_word s = if is_lone s then word_at s 0 else []
 
 -- a decimal number that is the only word
-unfoldable pub only_number : List ℕ → Number
+unfoldable pub only_number : List ℕ → Result ℕ NumberError
 only_number s = number_of 10 (only_word s)
 
 -- a CAN ID of one to four digits
-unfoldable pub id_read : List ℕ → Number
-id_read s = if nat_lt 4 (length s) then NoNumber else number_of 16 s
+unfoldable pub id_read : List ℕ → Result ℕ NumberError
+id_read s = if nat_lt 4 (length s) then Err NoNumber else number_of 16 s
 
 -- a CAN ID that is the only word
-unfoldable pub only_id : List ℕ → Number
+unfoldable pub only_id : List ℕ → Result ℕ NumberError
 only_id s = id_read (only_word s)
 
 -- words that start with a -
@@ -50,13 +50,13 @@ abbrev pub is_dash : List ℕ → Bool
 is_dash s = slice_index s 0 == 45
 
 -- a - gives no bytes if it stands alone
-unfoldable pub dash_read : List ℕ → Bytes
-dash_read s = if is_lone s && length (word_at s 0) == 1 then Count 0 else NoBytes
+unfoldable pub dash_read : List ℕ → Result ℕ PairsError
+dash_read s = if is_lone s && length (word_at s 0) == 1 then Ok 0 else Err NoPairs
 
 -- how many bytes some words give, of which there is room for so many
-unfoldable pub octets_read : ℕ → List ℕ → Bytes
+unfoldable pub octets_read : ℕ → List ℕ → Result ℕ PairsError
 octets_read room s =
-    if length s == 0 then NoBytes
+    if length s == 0 then Err NoPairs
     else if is_dash s then dash_read s
     else pairs_read room 0 s
 

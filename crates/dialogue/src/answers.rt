@@ -96,9 +96,8 @@ fn put_place(text: &mut [u8], at: usize, place: u8) -> usize
 fn number(text: &mut [u8], at: usize, said: Said) -> usize
     ensures { Writes text.old at (said_of said) text.new result }
 {
-    let opcode = [said.opcode];
     let at = writing::decimal(text, at, said.number as u64);
-    let at = pairs_if(text, at, said.number == 11, &opcode);
+    let at = pairs_if(text, at, said.number == 11, &[said.opcode]);
     writing::bytes_if(text, at, said.done, b" done")
 }
 
@@ -116,9 +115,10 @@ fn pairs_if(text: &mut [u8], at: usize, given: bool, s: &[u8]) -> usize
     ensures { Writes text.old at (if_given given (pairs_of s.now)) text.new result }
 {
     if given {
-        return writing::pairs(text, at, s);
+        writing::pairs(text, at, s)
+    } else {
+        at
     }
-    at
 }
 
 fn frame_if(text: &mut [u8], at: usize, given: bool, frame: Frame) -> usize
@@ -145,28 +145,25 @@ fn put_frame(text: &mut [u8], at: usize, frame: Frame) -> usize
 pub(crate) fn each(text: &mut [u8], said: [Said; 8]) -> usize
     ensures { Writes text.old 0 (each_of said) text.new result }
 {
-    let first = said[0];
-    let mut at = number(text, 0, first);
-    let mut i = 1;
-    while i < 8 {
-        let next = said[i];
+    let mut at = number(text, 0, said[0]);
+    for next in &said[1..] {
         at = writing::byte(text, at, b' ');
-        at = number(text, at, next);
-        i += 1;
+        at = number(text, at, *next);
     }
     writing::byte(text, at, b'\n')
 }
 
 // A place, and - for none.
-#[tactic(auto, using(laws::proofs::Branches::branches), unfolding(crate::specs::Answers::owner_of))]
-pub(crate) fn owner(text: &mut [u8], named: bool, place: u8) -> usize
-    ensures { Writes text.old 0 (owner_of named place) text.new result }
+pub(crate) fn owner(text: &mut [u8], place: Option<u8>) -> usize
+    ensures { Writes text.old 0 (owner_of place) text.new result }
 {
-    if named {
-        let at = writing::decimal(text, 0, place as u64);
-        return writing::byte(text, at, b'\n');
+    match place {
+        Some(place) => {
+            let at = writing::decimal(text, 0, place as u64);
+            writing::byte(text, at, b'\n')
+        }
+        None => writing::bytes(text, 0, b"-\n"),
     }
-    writing::bytes(text, 0, b"-\n")
 }
 
 // The answer to a line that is no call.
@@ -182,10 +179,12 @@ pub(crate) fn error(text: &mut [u8], line: u64) -> usize
 pub(crate) fn contents(text: &mut [u8], bytes: &[u8]) -> usize
     ensures { Writes text.old 0 (contents_of bytes.now) text.new result }
 {
-    if bytes.len() == 0 {
-        return writing::byte(text, 0, b'\n');
+    match bytes {
+        [] => writing::byte(text, 0, b'\n'),
+        [first, rest @ ..] => {
+            let at = writing::pair(text, 0, *first);
+            let at = writing::pairs(text, at, rest);
+            writing::byte(text, at, b'\n')
+        }
     }
-    let at = writing::pair(text, 0, bytes[0]);
-    let at = writing::pairs(text, at, &bytes[1..]);
-    writing::byte(text, at, b'\n')
 }

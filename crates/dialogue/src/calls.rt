@@ -1,12 +1,11 @@
 // The calls that a line can ask for.
 ghost use Rattle.std.specs.Prelude.{◌≡◌, length};
-ghost use Rattle.dialogue.specs.Calls.{alone_of, time_of, room_of, due_of, send_of, frame_with, frame_of, followed_of, followed_into, call_of, call_into};
+ghost use Rattle.dialogue.specs.Calls.{alone_of, time_of, room_of, due_of, send_of, frame_of, followed_of, followed_into, call_of, call_into};
 ghost use Rattle.dialogue.specs.Words.{word_at, behind_word, only_number, id_read, octets_read, octets_into};
 
 use crate::words::{behind_word, can_id, letters, octets, only_number, word};
-use text::reading::{Bytes, Number};
 
-// What a line asks for. Bytes that it gives stand elsewhere, and here is their count.
+// What a line asks for. Bytes that it gives stand at the start of a lent buffer, and here is their count: `call_of` says it so.
 #[derive(Clone, Copy)]
 pub enum Call {
     // A blank line or a comment.
@@ -33,7 +32,8 @@ pub(crate) const LONGEST: usize = 16000;
 // The most bytes that can be lent.
 const MOST_ROOM: u64 = 4096;
 
-// The names of the calls, as the numbers that their letters make.
+// The names of the calls, as the numbers that their letters make. No byte strings: `call_of` compares words as these numbers, by
+// which NULs before a name change nothing, and `Call::Other` hands such a number on.
 const NEW: u64 = 0x6E6577;
 
 const FRAME: u64 = 0x6672616D65;
@@ -61,19 +61,13 @@ pub fn read_call(line: &[u8], bytes: &mut [u8]) -> Call
     if LONGEST < line.len() {
         return Call::Wrong;
     }
-    if line.len() == 0 {
-        return Call::Nothing;
-    }
-    if line[0] == b'#' {
-        return Call::Nothing;
-    }
     let first = word(line);
-    if first.len() == 0 {
+    if first.is_empty() || line[0] == b'#' {
         return Call::Nothing;
     }
     let name = letters(first);
     let words = behind_word(line);
-    if words.len() == 0 {
+    if words.is_empty() {
         return alone(name);
     }
     followed(name, words, bytes)
@@ -84,22 +78,14 @@ pub fn read_call(line: &[u8], bytes: &mut [u8]) -> Call
 fn alone(name: u64) -> Call
     ensures { result ≡ alone_of name }
 {
-    if name == NEW {
-        return Call::New;
+    match name {
+        NEW => Call::New,
+        DUE => Call::Due,
+        TAKE => Call::Take,
+        CLOSE => Call::Close,
+        BUFFER => Call::Buffer,
+        _ => Call::Other(name),
     }
-    if name == DUE {
-        return Call::Due;
-    }
-    if name == TAKE {
-        return Call::Take;
-    }
-    if name == CLOSE {
-        return Call::Close;
-    }
-    if name == BUFFER {
-        return Call::Buffer;
-    }
-    Call::Other(name)
 }
 
 // A call with further words.
@@ -108,22 +94,14 @@ fn followed(name: u64, words: &[u8], bytes: &mut [u8]) -> Call
     ensures value { result ≡ followed_of (length bytes.old) name words.now }
     ensures bytes_after { bytes.new ≡ followed_into bytes.old name words.now }
 {
-    if name == TIME {
-        return time(words);
+    match name {
+        TIME => time(words),
+        ROOM => room(words),
+        FRAME => frame(words, bytes),
+        DUE => due(words, bytes),
+        SEND => send(words, bytes),
+        _ => Call::Other(name),
     }
-    if name == ROOM {
-        return room(words);
-    }
-    if name == FRAME {
-        return frame(words, bytes);
-    }
-    if name == DUE {
-        return due(words, bytes);
-    }
-    if name == SEND {
-        return send(words, bytes);
-    }
-    Call::Other(name)
 }
 
 #[tactic(auto, using(laws::proofs::Branches::branches), unfolding(crate::specs::Calls::time_of))]
@@ -131,9 +109,8 @@ fn time(words: &[u8]) -> Call
     ensures { result ≡ time_of (only_number words.now) }
 {
     match only_number(words) {
-        Number::Value(n) => Call::Time(n),
-        Number::TooLarge => Call::Wrong,
-        Number::Bad => Call::Wrong,
+        Ok(n) => Call::Time(n),
+        Err(_) => Call::Wrong,
     }
 }
 
@@ -142,44 +119,24 @@ fn room(words: &[u8]) -> Call
     ensures { result ≡ room_of (only_number words.now) }
 {
     match only_number(words) {
-        Number::Value(n) => {
-            if MOST_ROOM < n {
-                return Call::Wrong;
-            }
-            Call::Room(n as usize)
-        }
-        Number::TooLarge => Call::Wrong,
-        Number::Bad => Call::Wrong,
+        Ok(n) if n <= MOST_ROOM => Call::Room(n as usize),
+        _ => Call::Wrong,
     }
 }
 
+#[tactic(auto, using(laws::proofs::Branches::branches), unfolding(crate::specs::Calls::frame_of))]
 fn frame(words: &[u8], bytes: &mut [u8]) -> Call
     ensures value { result ≡ frame_of (id_read (word_at words.now 0)) (octets_read (length bytes.old) (behind_word words.now)) }
     ensures bytes_after { bytes.new ≡ octets_into bytes.old (behind_word words.now) }
 {
     let id = can_id(word(words));
     let count = octets(behind_word(words), bytes);
-    framed(id, count)
-}
-
-#[tactic(auto, using(laws::proofs::Branches::branches), unfolding(crate::specs::Calls::frame_of))]
-fn framed(id: Number, bytes: Bytes) -> Call
-    ensures { result ≡ frame_of id bytes }
-{
-    match id {
-        Number::Value(n) => with_id((n % 65536) as u16, bytes),
-        Number::TooLarge => Call::Wrong,
-        Number::Bad => Call::Wrong,
-    }
-}
-
-fn with_id(id: u16, bytes: Bytes) -> Call
-    ensures { result ≡ frame_with id bytes }
-{
-    match bytes {
-        Bytes::Count(count) => Call::Frame { id, count },
-        Bytes::TooMany => Call::Wrong,
-        Bytes::Bad => Call::Wrong,
+    match (id, count) {
+        (Ok(id), Ok(count)) => Call::Frame {
+            id: (id % 65536) as u16,
+            count,
+        },
+        _ => Call::Wrong,
     }
 }
 
@@ -189,9 +146,8 @@ fn due(words: &[u8], bytes: &mut [u8]) -> Call
     ensures bytes_after { bytes.new ≡ octets_into bytes.old words.now }
 {
     match octets(words, bytes) {
-        Bytes::Count(n) => Call::DueOf(n),
-        Bytes::TooMany => Call::Wrong,
-        Bytes::Bad => Call::Wrong,
+        Ok(n) => Call::DueOf(n),
+        Err(_) => Call::Wrong,
     }
 }
 
@@ -201,8 +157,7 @@ fn send(words: &[u8], bytes: &mut [u8]) -> Call
     ensures bytes_after { bytes.new ≡ octets_into bytes.old words.now }
 {
     match octets(words, bytes) {
-        Bytes::Count(n) => Call::Send(n),
-        Bytes::TooMany => Call::Wrong,
-        Bytes::Bad => Call::Wrong,
+        Ok(n) => Call::Send(n),
+        Err(_) => Call::Wrong,
     }
 }

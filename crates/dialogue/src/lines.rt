@@ -12,13 +12,6 @@ pub struct Line {
     pub ended: bool,
 }
 
-// What reading one character finds.
-#[derive(Clone, Copy)]
-enum Read {
-    Character(u8),
-    End,
-}
-
 // Reads a line, character by character, so that nothing behind it is waited for. Its end is not kept, and what there is no
 // room for is not either.
 pub fn read_line<R: Input>(rt: &R, line: &mut [u8]) -> Line
@@ -26,10 +19,8 @@ pub fn read_line<R: Input>(rt: &R, line: &mut [u8]) -> Line
 {
     let mut input = rt.reader();
     let mut fill = 0;
-    let mut turns = u64::MAX;
-    while 0 < turns {
-        turns -= 1;
-        let Read::Character(b) = read_character(&mut input) else {
+    for _ in 0..u64::MAX {
+        let Some(b) = read_character(&mut input) else {
             return Line { fill, ended: true };
         };
         if b == b'\n' {
@@ -51,20 +42,17 @@ fn without_return(line: &[u8], fill: usize) -> usize
         return 0;
     }
     let last = fill - 1;
-    if line.len() <= last {
-        return fill;
-    }
-    if line[last] == b'\r' {
+    if last < line.len() && line[last] == b'\r' {
         return last;
     }
     fill
 }
 
-// A character that cannot be read ends the input.
-fn read_character<I: io::Read>(input: &mut I) -> Read {
+// The next character, and none at the input's end; one that cannot be read ends the input.
+fn read_character<I: io::Read>(input: &mut I) -> Option<u8> {
     let mut one = [0u8; 1];
     match input.read(&mut one) {
-        Ok(1) => Read::Character(one[0]),
-        _ => Read::End,
+        Ok(1) => Some(one[0]),
+        _ => None,
     }
 }

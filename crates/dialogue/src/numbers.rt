@@ -1,12 +1,12 @@
 // Settings as words, one decimal number each. A number too large for its setting is out of range like any other.
 ghost use Rattle.std.specs.Prelude.{◌≡◌};
-ghost use Rattle.dialogue.specs.Numbers.{no_numbers, with_number, with_beyond, next_number, are_all, out_of_range_if, given_by, opening_with, opening_of};
+ghost use Rattle.dialogue.specs.Numbers.{no_numbers, with_number, next_number, are_all, out_of_range_if, given_by, opening_with, opening_of};
 
 use settings::Settings;
 use text::reading;
-use text::reading::Number;
+use text::reading::NumberError;
 
-// Numbers that are read one after another.
+// Numbers that are read one after another. The flags are no error of `value`: they tell of every word so far, it of the last.
 #[derive(Clone, Copy)]
 pub struct Numbers {
     // The place behind the last word.
@@ -24,13 +24,6 @@ pub struct Numbers {
 pub struct Given {
     pub settings: Settings,
     pub numbers: Numbers,
-}
-
-// The settings that an opening asks for.
-#[derive(Clone, Copy)]
-pub enum Opening {
-    Wrong,
-    With(Settings),
 }
 
 impl Numbers {
@@ -59,39 +52,27 @@ impl Numbers {
 
     // A word was read, up to a place.
     #[tactic(auto, using(laws::proofs::Branches::branches), unfolding(crate::specs::Numbers::with_number))]
-    fn with(self, at: usize, most: u64, number: Number) -> Numbers
+    fn with(self, at: usize, most: u64, number: Result<u64, NumberError>) -> Numbers
         ensures { result ≡ with_number self at most number }
     {
         match number {
-            Number::Value(n) => {
-                if most < n {
-                    return self.with_beyond(at);
-                }
-                Numbers {
-                    at,
-                    bad: self.bad,
-                    beyond: self.beyond,
-                    value: n,
-                }
-            }
-            Number::TooLarge => self.with_beyond(at),
-            Number::Bad => Numbers {
+            Ok(n) if n <= most => Numbers {
+                at,
+                value: n,
+                ..self
+            },
+            Ok(_) | Err(NumberError::TooLarge) => Numbers {
+                at,
+                beyond: true,
+                value: 0,
+                ..self
+            },
+            Err(NumberError::Bad) => Numbers {
                 at,
                 bad: true,
-                beyond: self.beyond,
                 value: 0,
+                ..self
             },
-        }
-    }
-
-    fn with_beyond(self, at: usize) -> Numbers
-        ensures { result ≡ with_beyond self at }
-    {
-        Numbers {
-            at,
-            bad: self.bad,
-            beyond: true,
-            value: 0,
         }
     }
 
@@ -141,8 +122,9 @@ pub fn settings(words: &[u8]) -> Given
     }
 }
 
-// The settings that an opening asks for: the defaults where no word is given, and else those that all the words give.
-pub fn read_opening(words: &[u8]) -> Opening
+// The settings that an opening asks for: the defaults where no word is given, and else those that all the words give, if they
+// do.
+pub fn read_opening(words: &[u8]) -> Option<Settings>
     ensures { result ≡ opening_of words.now }
 {
     opening_with(Settings::DEFAULT, words)
@@ -150,19 +132,17 @@ pub fn read_opening(words: &[u8]) -> Opening
 
 // The same with other defaults.
 #[tactic(auto, using(laws::proofs::Branches::branches), unfolding(crate::specs::Numbers::opening_with))]
-pub(crate) fn opening_with(defaults: Settings, words: &[u8]) -> Opening
+pub(crate) fn opening_with(defaults: Settings, words: &[u8]) -> Option<Settings>
     ensures { result ≡ opening_with defaults words.now }
 {
-    if words.len() == 0 {
-        return Opening::With(defaults);
+    if words.is_empty() {
+        return Some(defaults);
     }
-    let given = settings(words);
-    let settings = given.settings;
-    let read = given.numbers;
-    if read.are_all(words) {
-        return Opening::With(settings);
+    let Given { settings, numbers } = settings(words);
+    if numbers.are_all(words) {
+        return Some(settings);
     }
-    Opening::Wrong
+    None
 }
 
 // Settings that every record refuses, where a number is too large: a receive ID has eleven bits.
@@ -171,7 +151,6 @@ fn out_of_range_if(beyond: bool, mut settings: Settings) -> Settings
 {
     if beyond {
         settings.receive = 65535;
-        return settings;
     }
     settings
 }

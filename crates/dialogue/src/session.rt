@@ -50,11 +50,7 @@ impl Session {
     pub fn turns_left(self, turns: u64) -> u64
         ensures { result ≡ turns_left self turns }
     {
-        if self.ended {
-            return 0;
-        }
-        let output = self.output;
-        if output.failed {
+        if self.ended || self.output.failed {
             return 0;
         }
         turns
@@ -132,13 +128,12 @@ impl Session {
     pub fn tell_owner<R: Print + Eprint>(
         self,
         rt: &R,
-        named: bool,
-        place: u8,
+        place: Option<u8>,
         text: &mut [u8],
     ) -> Session
-        ensures { Answers self (owner_of named place) text.old text.new result }
+        ensures { Answers self (owner_of place) text.old text.new result }
     {
-        let end = answers::owner(text, named, place);
+        let end = answers::owner(text, place);
         self.say(rt, shown(text, end))
     }
 
@@ -161,9 +156,7 @@ impl Session {
     fn say<R: Print + Eprint>(mut self, rt: &R, text: &[u8]) -> Session
         ensures { Says self text.now result }
     {
-        let output = self.output;
-        let next = output.say(rt, text);
-        self.output = next;
+        self.output = self.output.say(rt, text);
         self
     }
 }
@@ -172,9 +165,5 @@ impl Session {
 pub fn clear(buffer: &mut [u8])
     ensures { buffer.new ≡ replicate (length buffer.old) 0 }
 {
-    let mut i = 0;
-    while i < buffer.len() {
-        buffer[i] = 0;
-        i += 1;
-    }
+    buffer.fill(0);
 }

@@ -3,7 +3,7 @@ ghost use Rattle.std.specs.Prelude.{◌≡◌, length};
 ghost use Rattle.dialogue.specs.Words.{word_at, behind_word, letters_of, only_word, only_number, id_read, only_id, dash_read, octets_read, octets_into};
 
 use text::reading;
-use text::reading::{Bytes, Number};
+use text::reading::{NumberError, PairsError};
 
 // The first word.
 #[tactic(auto, unfolding(crate::specs::Words::word_at))]
@@ -30,19 +30,11 @@ pub(crate) fn letters(word: &[u8]) -> u64
     if 8 < word.len() {
         return 0;
     }
-    let mut n: u64 = 0;
-    let mut i = 0;
-    while i < word.len() {
-        n = 256 * (n % 72057594037927936) + wide(word[i]);
-        i += 1;
+    let mut n = 0;
+    for c in word {
+        n = 256 * n + u64::from(*c);
     }
     n
-}
-
-fn wide(b: u8) -> u64
-    ensures { result ≡ b }
-{
-    b as u64
 }
 
 // The only word, and an empty one where there are more.
@@ -50,16 +42,15 @@ fn wide(b: u8) -> u64
 fn only_word(words: &[u8]) -> &[u8]
     ensures { result.now ≡ only_word words.now }
 {
-    let more = behind_word(words);
-    if more.len() == 0 {
+    if behind_word(words).is_empty() {
         return word(words);
     }
-    &words[..0]
+    &[]
 }
 
 // A decimal number that is the only word.
 #[tactic(auto, unfolding(crate::specs::Words::only_number))]
-pub(crate) fn only_number(words: &[u8]) -> Number
+pub(crate) fn only_number(words: &[u8]) -> Result<u64, NumberError>
     ensures { result ≡ only_number words.now }
 {
     reading::decimal(only_word(words))
@@ -67,18 +58,18 @@ pub(crate) fn only_number(words: &[u8]) -> Number
 
 // A CAN ID of one to four digits.
 #[tactic(auto, using(laws::proofs::Branches::branches), unfolding(crate::specs::Words::id_read))]
-pub(crate) fn can_id(word: &[u8]) -> Number
+pub(crate) fn can_id(word: &[u8]) -> Result<u64, NumberError>
     ensures { result ≡ id_read word.now }
 {
     if 4 < word.len() {
-        return Number::Bad;
+        return Err(NumberError::Bad);
     }
     reading::hexadecimal(word)
 }
 
 // A CAN ID that is the only word.
 #[tactic(auto, unfolding(crate::specs::Words::only_id))]
-pub fn only_id(words: &[u8]) -> Number
+pub fn only_id(words: &[u8]) -> Result<u64, NumberError>
     ensures { result ≡ only_id words.now }
 {
     can_id(only_word(words))
@@ -86,12 +77,12 @@ pub fn only_id(words: &[u8]) -> Number
 
 // The bytes that some words give, a lone - being none, written to the start of bytes; the answer is how many.
 #[tactic(auto, using(laws::proofs::Branches::branches), unfolding(crate::specs::Words::octets_read, crate::specs::Words::octets_into))]
-pub(crate) fn octets(words: &[u8], bytes: &mut [u8]) -> Bytes
+pub(crate) fn octets(words: &[u8], bytes: &mut [u8]) -> Result<usize, PairsError>
     ensures value { result ≡ octets_read (length bytes.old) words.now }
     ensures bytes_after { bytes.new ≡ octets_into bytes.old words.now }
 {
     if words.len() == 0 {
-        return Bytes::Bad;
+        return Err(PairsError::Bad);
     }
     if words[0] == b'-' {
         return no_octets(words);
@@ -101,16 +92,11 @@ pub(crate) fn octets(words: &[u8], bytes: &mut [u8]) -> Bytes
 
 // A - gives no bytes if it stands alone.
 #[tactic(auto, using(laws::proofs::Branches::branches, crate::proofs::Handed::lengths), unfolding(crate::specs::Words::dash_read))]
-fn no_octets(words: &[u8]) -> Bytes
+fn no_octets(words: &[u8]) -> Result<usize, PairsError>
     ensures { result ≡ dash_read words.now }
 {
-    let more = behind_word(words);
-    if more.len() != 0 {
-        return Bytes::Bad;
+    if behind_word(words).is_empty() && word(words).len() == 1 {
+        return Ok(0);
     }
-    let dash = word(words);
-    if dash.len() != 1 {
-        return Bytes::Bad;
-    }
-    Bytes::Count(0)
+    Err(PairsError::Bad)
 }

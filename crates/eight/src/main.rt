@@ -18,7 +18,6 @@ use crate::ways::Way;
 use open_end::shown;
 use text::input::read_full;
 use text::output::Output;
-use text::reading::Number;
 use text::{reading, writing};
 
 mod units;
@@ -118,8 +117,8 @@ fn read_line(line: &[u8]) -> Asked {
 // The number of rounds, and 0 for what is no such number.
 fn rounds_of(digits: &[u8]) -> u64 {
     match reading::decimal(digits) {
-        Number::Value(n) => at_most(n),
-        _ => 0,
+        Ok(n) => at_most(n),
+        Err(_) => 0,
     }
 }
 

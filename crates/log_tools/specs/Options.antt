@@ -1,11 +1,10 @@
 -- The words that a tool is started with: `[--room N] [--chunk N] [FILE]`, and `[--places N]` for a tool that makes a list.
-use Rattle.std.specs.Prelude.{ℕ, Bool, ◌&&◌, List, [], length, take, leb, eqb, bytes_eq, if◌then◌else◌, Option, None, Some, is_some, unwrap_or}
+use Rattle.std.specs.Prelude.{ℕ, Bool, ◌&&◌, List, [], length, take, leb, eqb, bytes_eq, if◌then◌else◌, Option, None, Some, is_some, unwrap_or, Result, Ok, Err}
 use Rattle.std.specs.List.{starts_with}
 use Rattle.laws.specs.Characters.{ascii}
 use Rattle.telegram.specs.Cutting.{longest}
 use Rattle.text.specs.Numbers.{number_of}
-use Rattle.text.specs.declared.reading.Number.{Number}
-use Rattle.text.specs.declared.reading.Number.TheVariants.{Value, TooLarge, Bad}
+use Rattle.text.specs.declared.reading.NumberError.{NumberError}
 use Rattle.log_tools.specs.declared.options.Name.{Name}
 use Rattle.log_tools.specs.declared.options.Name.TheVariants.{Room, Chunk, Places}
 use Rattle.log_tools.specs.declared.options.Fault.{Fault}
@@ -69,10 +68,9 @@ option_named lists w =
     else None
 
 -- the number of an option, if it takes that
-unfoldable pub on_number : Options → Name → (place : ℕ) → Number → Options
-on_number o option place (Value n) = if takes option n then numbered o option n else refused o (NoNumber option) (Some place)
-on_number o option place TooLarge = refused o (NoNumber option) (Some place)
-on_number o option place Bad = refused o (NoNumber option) (Some place)
+unfoldable pub on_number : Options → Name → (place : ℕ) → Result ℕ NumberError → Options
+on_number o option place (Ok n) = if takes option n then numbered o option n else refused o (NoNumber option) (Some place)
+on_number o option place (Err e) = refused o (NoNumber option) (Some place)
 
 -- each option at most once
 unfoldable pub on_option : Options → (place : ℕ) → Option Name → Options

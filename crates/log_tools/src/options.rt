@@ -5,7 +5,7 @@ ghost use Rattle.std.specs.Prelude.{◌≡◌, take};
 ghost use Rattle.log_tools.specs.Options.{is_option, fresh, takes, default_of, given, number_for, refused, awaiting, numbered, named, option_named, on_number, on_option, word_taken, held_taken, words_ended};
 
 use telegram::cutting::LONGEST;
-use text::reading::{Number, decimal, part};
+use text::reading::{NumberError, decimal, part};
 
 // The options, each of which has a number behind it.
 #[derive(Clone, Copy)]
@@ -220,11 +220,11 @@ impl Options {
     }
 
     #[tactic(auto, using(laws::proofs::Branches::branches), unfolding(crate::specs::Options::on_number))]
-    fn on_number(self, option: Name, place: usize, number: Number) -> Options
+    fn on_number(self, option: Name, place: usize, number: Result<u64, NumberError>) -> Options
         ensures { result ≡ on_number self option place number }
     {
         match number {
-            Number::Value(n) if option.takes(n) => self.numbered(option, n as usize),
+            Ok(n) if option.takes(n) => self.numbered(option, n as usize),
             _ => self.refused(Fault::NoNumber(option), Some(place)),
         }
     }

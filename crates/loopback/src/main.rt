@@ -23,7 +23,6 @@ use telegram::kinds::Parameters;
 use telegram::time::tenths;
 use text::input::read_full;
 use text::output::Output;
-use text::reading::Number;
 use text::{reading, writing};
 
 // The IDs that the two ends receive on.
@@ -107,8 +106,8 @@ fn read_rounds(text: &[u8]) -> u64 {
 
 fn rounds_of(digits: &[u8]) -> u64 {
     match reading::decimal(digits) {
-        Number::Value(n) => at_most(n),
-        _ => 0,
+        Ok(n) => at_most(n),
+        Err(_) => 0,
     }
 }
 

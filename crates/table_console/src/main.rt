@@ -7,14 +7,15 @@ use channel::Answer::NotDue;
 use dialogue::answers::Carried;
 use dialogue::calls::Call;
 use dialogue::lines::read_line;
-use dialogue::numbers::{Opening, read_opening};
+use dialogue::numbers::read_opening;
 use dialogue::places::{Asked, read_asked};
 use dialogue::session::{Session, clear};
 use dialogue::words::{behind_word, only_id};
 use open_end::answers::{Answer, Said, tell};
 use open_end::shown;
+use settings::Settings;
 use table::{Answered, Arrived, Due, PLACES, Place, Table, TakeStep};
-use text::reading::Number;
+use text::reading::NumberError;
 use text::{reading, writing};
 
 // What is kept from line to line, beside the buffers and the messages that main makes.
@@ -144,16 +145,16 @@ impl Console {
     ) -> Console {
         let table = self.table;
         let session = self.session;
-        let place = asked.place;
-        let call = asked.call;
-        match call {
+        // The calls of no place do without it.
+        let place = asked.place.unwrap_or(0);
+        match asked.call {
             Call::Nothing => self,
             Call::Wrong => self.with(session.wrong(rt, text)),
             Call::New => self.renewed(rt, buffers),
             Call::Frame { id, count } => {
                 self.arrived(rt, self.arriving(id, shown(bytes, count), buffers), text)
             }
-            Call::Time(tenths) => self.elapsed(rt, asked.named, place, tenths, text),
+            Call::Time(tenths) => self.elapsed(rt, asked.place, tenths, text),
             Call::Due => {
                 let message = shown(part(messages, place), self.length(place) as usize);
                 self.handed(rt, table.due(place, message), text)
@@ -185,12 +186,17 @@ impl Console {
         self.with(session.wrong(rt, text))
     }
 
-    fn opened<R: Print + Eprint>(self, rt: &R, opening: Opening, text: &mut [u8]) -> Console {
+    fn opened<R: Print + Eprint>(
+        self,
+        rt: &R,
+        opening: Option<Settings>,
+        text: &mut [u8],
+    ) -> Console {
         let table = self.table;
         let session = self.session;
         match opening {
-            Opening::Wrong => self.with(session.wrong(rt, text)),
-            Opening::With(settings) => {
+            None => self.with(session.wrong(rt, text)),
+            Some(settings) => {
                 let opened = table.open(settings);
                 let told = opened.told;
                 let place = opened.place;
@@ -200,12 +206,16 @@ impl Console {
         }
     }
 
-    fn owned<R: Print + Eprint>(self, rt: &R, id: Number, text: &mut [u8]) -> Console {
+    fn owned<R: Print + Eprint>(
+        self,
+        rt: &R,
+        id: Result<u64, NumberError>,
+        text: &mut [u8],
+    ) -> Console {
         let session = self.session;
         match id {
-            Number::Value(n) => self.owner(rt, (n % 65536) as u16, text),
-            Number::TooLarge => self.with(session.wrong(rt, text)),
-            Number::Bad => self.with(session.wrong(rt, text)),
+            Ok(n) => self.owner(rt, (n % 65536) as u16, text),
+            Err(_) => self.with(session.wrong(rt, text)),
         }
     }
 
@@ -213,8 +223,8 @@ impl Console {
         let table = self.table;
         let session = self.session;
         match table.owner(id) {
-            Place::Nowhere => self.with(session.tell_owner(rt, false, 0, text)),
-            Place::At(p) => self.with(session.tell_owner(rt, true, p, text)),
+            Place::Nowhere => self.with(session.tell_owner(rt, None, text)),
+            Place::At(p) => self.with(session.tell_owner(rt, Some(p), text)),
         }
     }
 
@@ -237,16 +247,15 @@ impl Console {
     fn elapsed<R: Print + Eprint>(
         self,
         rt: &R,
-        named: bool,
-        place: u8,
+        place: Option<u8>,
         tenths: u64,
         text: &mut [u8],
     ) -> Console {
         let table = self.table;
-        if named {
-            return self.answered(rt, table.elapse(place, tenths), text);
+        match place {
+            Some(p) => self.answered(rt, table.elapse(p, tenths), text),
+            None => self.each_elapsed(rt, tenths, text),
         }
-        self.each_elapsed(rt, tenths, text)
     }
 
     fn each_elapsed<R: Print + Eprint>(self, rt: &R, tenths: u64, text: &mut [u8]) -> Console {

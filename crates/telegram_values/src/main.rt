@@ -22,7 +22,6 @@ use telegram::payload::Payload;
 use telegram::{cutting, kinds, time};
 use text::input::read_full;
 use text::output::Output;
-use text::reading::Bytes;
 use text::{reading, writing};
 
 fn main(rt: HostRuntime) {
@@ -80,7 +79,7 @@ fn line<R: Print + Eprint>(rt: &R, output: Output, text: &[u8]) -> Output {
 // Runs a value of pairs of digits.
 fn run(text: &mut [u8], at: usize, what: u8, pairs: &[u8]) -> usize {
     let mut value = [0u8; 32];
-    let Bytes::Count(n) = reading::pairs(pairs, &mut value) else {
+    let Ok(n) = reading::pairs(pairs, &mut value) else {
         return writing::bytes(text, at, b" no bytes");
     };
     found(text, at, what, reading::part(&value, 0, n))

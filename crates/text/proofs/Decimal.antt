@@ -1,12 +1,11 @@
 -- How many digits a number has, and that its last digits, so many of them, are the number in decimal digits.
---     div-pow-one, div-pow-div                        what is left of a number after one digit, and after one more
---     pow-le_of_div_pos, lt-pow_of_div-zero           something is left of it after k digits, or nothing
+--     counted, one-digit     the digits that a power of ten counts, and the one of 0
 use Prim.Native.Nat.{ℕ, zero, suc, ◌+◌, ◌-◌, ◌*◌, ◌/◌, ◌^◌, ◌≤◌, ◌<◌}
-use native.Mathlib.Nat.{div-lt_iff_lt-mul, le-div_iff_mul-le, div-div-eq-div-mul, pow-suc, one-le-pow, pow-le-pow_right, not-suc-le-zero}
+use native.Mathlib.Nat.{div-lt_iff_lt-mul, le-div_iff_mul-le, pow-suc, pow-le-pow_right, not-suc-le-zero}
 use native.Mathlib.Numerals.{add-one}
 use native.Mathlib.Omega.{arith}
 use mathlib.Core.List.{List}
-use mathlib.Core.Path.{◌≡◌, refl, sym, ap, ◌∙◌}
+use mathlib.Core.Path.{◌≡◌, refl, sym, ◌∙◌}
 use lib.ListN.{length, take}
 use lib.Seq.{length-take-le}
 use lib.Dec.{leb}
@@ -18,22 +17,15 @@ use Rattle.text.specs.Written.{decimal_below, decimal_of}
 pub prefix_len : (n : ℕ) (xs : List ℕ) → n ≤ length xs → IsPrefixLen n xs
 prefix_len n xs h = (h, sym (length-take-le n xs h))
 
-pub div-pow-one : (n : ℕ) → n / 10 ≡ n / 10 ^ 1
-div-pow-one n = refl
-
-pub div-pow-div : (n k : ℕ) → n / 10 ^ k / 10 ≡ n / 10 ^ (k + 1)
-div-pow-div n k = div-div-eq-div-mul n (10 ^ k) 10 ∙ ap (λ (d : ℕ). n / d) (sym (pow-suc 10 k) ∙ ap (λ (j : ℕ). 10 ^ j) (sym (add-one k)))
-
-pub pow-le_of_div_pos : (n k : ℕ) → 0 < n / 10 ^ k → 10 ^ (k + 1 - 1) ≤ n
-pow-le_of_div_pos n k some =
+-- the power of ten that a number is at least, but not ten times as large, counts its digits but one
+pub counted : (n k : ℕ) → 10 ^ k ≤ n → n < 10 * 10 ^ k → IsDigitCount n (k + 1)
+counted n k least most =
+    let p : 10 ^ suc k ≡ 10 ^ k * 10 = pow-suc 10 k in
     let e : k + 1 - 1 ≡ k = omega arith in
-    let p : 1 * 10 ^ k ≤ n = (le-div_iff_mul-le (one-le-pow k 10 (omega arith))).0 some in
-    rw e (omega arith)
+    (omega arith, rw (add-one k, p) (omega arith), λ _. rw e least)
 
-pub lt-pow_of_div-zero : (n k : ℕ) → n / 10 ^ k < 1 → n < 10 ^ k
-lt-pow_of_div-zero n k none =
-    let p : n < 1 * 10 ^ k = (div-lt_iff_lt-mul (one-le-pow k 10 (omega arith))).0 none in
-    omega arith
+pub one-digit : (n : ℕ) → n ≡ 0 → IsDigitCount n 1
+one-digit n e = (omega arith, omega arith, λ l. absurd (omega arith))
 
 positive : (j : ℕ) → 1 ≤ 10 ^ j
 positive zero = omega arith

@@ -1,5 +1,3 @@
-pub mod Failing
-pub mod Parts
 pub mod Words
 pub mod Numbers
 pub mod Pairs

@@ -1,38 +1,26 @@
 -- Bytes, pair by pair.
---     Reading                        what is read before the place i stands in the first n bytes
---     skips, takes                   the next character is a blank, or starts a pair
+--     Reading                        what is read before the rest stands in the first n bytes
+--     skips, takes                   the rest starts with a blank, or with a pair
 --     ends, lone, bad, no_room       how it comes to an end; with -into what that leaves of the bytes
-use Prim.Native.Nat.{ℕ, suc, ◌+◌, ◌-◌, ◌≤◌, ◌<◌}
-use native.Mathlib.Numerals.{add-one}
+use Prim.Native.Nat.{ℕ, ◌+◌, ◌-◌, ◌≤◌, ◌<◌}
+use native.Mathlib.Numerals.{sub-one}
 use native.Mathlib.Omega.{arith}
-use mathlib.Core.Bool.{Bool, true, false, ◌&&◌}
+use mathlib.Core.Bool.{true, false}
 use mathlib.Core.List.{List, [], ◌∷◌}
-use mathlib.Core.Path.{◌≡◌, refl, sym, ◌∙◌}
-use lib.ListN.{length, drop, get_or, set, drop_of_length-le, length-set}
-use lib.Seq.{drop-cons}
+use mathlib.Core.Path.{◌≡◌, refl, sym, ap, ◌∙◌}
+use lib.ListN.{length, take, drop, get_or, set, length-set}
+use lib.Seq.{take_all}
 use borrow.Author.Tests.{le-leb, lt-leb}
+use Rattle.std.specs.Prelude.{Ok, Err}
 use Rattle.text.specs.Words.{is_blank}
 use Rattle.text.specs.Pairs.{is_pair, byte_of, pairs_read, pairs_into}
-use Rattle.text.specs.declared.reading.Bytes.TheVariants.{Count, TooMany, Bad}
+use Rattle.text.specs.declared.reading.PairsError.TheVariants.{TooMany, Bad}
 
-abbrev pub Reading : List ℕ → List ℕ → List ℕ → ℕ → ℕ → Type 0
-Reading s b₀ b n i =
-    (pairs_read (length b₀) 0 s ≡ pairs_read (length b₀) n (drop i s))
-    × (pairs_into b₀ 0 s ≡ pairs_into b n (drop i s))
+abbrev pub Reading : List ℕ → List ℕ → List ℕ → ℕ → List ℕ → Type 0
+Reading s b₀ b n rest =
+    (pairs_read (length b₀) 0 s ≡ pairs_read (length b₀) n rest)
+    × (pairs_into b₀ 0 s ≡ pairs_into b n rest)
     × (length b ≡ length b₀)
-
-pub begins : (s b : List ℕ) → Reading s b b 0 0
-begins s b = (refl, refl, refl)
-
-two : (s : List ℕ) (i : ℕ) → 2 ≤ length s - i → drop i s ≡ get_or s i 0 ∷ get_or s (i + 1) 0 ∷ drop (i + 2) s
-two s i h =
-    let p : i < length s = omega arith in
-    let e : i + 2 ≡ suc (i + 1) = omega arith in
-    let q : i + 1 < length s = omega arith in
-    drop-cons s i 0 p ∙ rw (sym (add-one i), drop-cons s (i + 1) 0 q, e)
-
-one : (s : List ℕ) (i : ℕ) → i < length s → length s - i < 2 → drop i s ≡ get_or s i 0 ∷ []
-one s i h k = let over : length s ≤ suc i = omega arith in rw (drop-cons s i 0 h, drop_of_length-le s over)
 
 skip_read : (room n c : ℕ) (t : List ℕ) → is_blank c ≡ true → pairs_read room n (c ∷ t) ≡ pairs_read room n t
 unfolding pairs_read
@@ -44,69 +32,68 @@ unfolding pairs_into
 skip-into b n c [] e = refl
 skip-into b n c (d ∷ t) e = rw e
 
-module _ (s : List ℕ) (i : ℕ) where
-  -- the answer
-  module _ (room n : ℕ) (read : pairs_read room 0 s ≡ pairs_read room n (drop i s)) where
-    pub ends : length s ≤ i → Count n ≡ pairs_read room 0 s
-    unfolding pairs_read
-    ends h = sym (read ∙ rw (drop_of_length-le s h))
+-- a text of one character or more, and of two or more, is those and what is behind them
+pub first : (s : List ℕ) → 1 ≤ length s → s ≡ get_or s 0 0 ∷ take (length s - 1) (drop 1 s)
+first [] h = absurd (omega arith)
+first (c ∷ s) h = rw (sub-one, take_all (length s) s (omega arith))
 
-    pub lone : i < length s → length s - i < 2 → is_blank (get_or s i 0) ≡ false → Bad ≡ pairs_read room 0 s
-    unfolding pairs_read
-    lone h k e = sym (read ∙ rw (one s i h k, e))
+pub second : (s t : List ℕ) → 1 ≤ length s → t ≡ take (length s - 1) (drop 1 s) → 1 ≤ length t → s ≡ get_or s 0 0 ∷ get_or t 0 0 ∷ take (length t - 1) (drop 1 t)
+second s t h e k = first s h ∙ ap (λ (r : List ℕ). get_or s 0 0 ∷ r) (sym e ∙ first t k)
 
-    pub bad : 2 ≤ length s - i → is_blank (get_or s i 0) ≡ false → is_pair (get_or s i 0) (get_or s (i + 1) 0) ≡ false → Bad ≡ pairs_read room 0 s
-    unfolding pairs_read
-    bad h e t = sym (read ∙ rw (two s i h, e, t))
+-- and one of fewer than two is the first alone
+pub alone : (s t : List ℕ) → 1 ≤ length s → t ≡ take (length s - 1) (drop 1 s) → length t < 1 → s ≡ get_or s 0 0 ∷ []
+alone s [] h e k = first s h ∙ ap (λ (r : List ℕ). get_or s 0 0 ∷ r) (sym e)
+alone s (d ∷ t) h e k = absurd (omega arith)
 
-  -- the same, the room being that of the bytes as they are now
-  module _ (b₀ b : List ℕ) (n : ℕ) (read : pairs_read (length b₀) 0 s ≡ pairs_read (length b₀) n (drop i s)) (long : length b ≡ length b₀)
-      (h : 2 ≤ length s - i) (e : is_blank (get_or s i 0) ≡ false) (p : is_pair (get_or s i 0) (get_or s (i + 1) 0) ≡ true) where
-    pub no_room : length b ≤ n → TooMany ≡ pairs_read (length b₀) 0 s
-    unfolding pairs_read
-    no_room t = let k : length b₀ ≤ n = omega arith in sym (read ∙ rw (two s i h, e, p, le-leb (length b₀) n k))
+pub none : (s : List ℕ) → length s < 1 → s ≡ []
+none [] h = refl
+none (c ∷ s) h = absurd (omega arith)
 
-    goes_on : n < length b → pairs_read (length b₀) 0 s ≡ pairs_read (length b₀) (n + 1) (drop (i + 2) s)
-    unfolding pairs_read
-    goes_on t = let k : n < length b₀ = omega arith in read ∙ rw (two s i h, e, p, lt-leb (length b₀) n k)
+module _ (s b₀ b : List ℕ) (n : ℕ) (rest : List ℕ) (w : Reading s b₀ b n rest) where
+  pub ends : rest ≡ [] → Ok n ≡ pairs_read (length b₀) 0 s
+  unfolding pairs_read
+  ends e = sym (w.0 ∙ rw e)
 
-  -- the bytes
-  module _ (b₀ b : List ℕ) (n : ℕ) (into : pairs_into b₀ 0 s ≡ pairs_into b n (drop i s)) where
-    pub ends-into : length s ≤ i → b ≡ pairs_into b₀ 0 s
+  pub ends-into : rest ≡ [] → b ≡ pairs_into b₀ 0 s
+  unfolding pairs_into
+  ends-into e = sym (w.1 ∙ rw e)
+
+  pub lone : (c : ℕ) → rest ≡ c ∷ [] → is_blank c ≡ false → Err Bad ≡ pairs_read (length b₀) 0 s
+  unfolding pairs_read
+  lone c e k = sym (w.0 ∙ rw (e, k))
+
+  pub lone-into : (c : ℕ) → rest ≡ c ∷ [] → b ≡ pairs_into b₀ 0 s
+  unfolding pairs_into
+  lone-into c e = sym (w.1 ∙ rw e)
+
+  pub skips : (c : ℕ) (t : List ℕ) → rest ≡ c ∷ t → is_blank c ≡ true → Reading s b₀ b n t
+  skips c t e k = (w.0 ∙ rw e (skip_read (length b₀) n c t k), w.1 ∙ rw e (skip-into b n c t k), w.2)
+
+  module _ (c d : ℕ) (t : List ℕ) (e : rest ≡ c ∷ d ∷ t) (k : is_blank c ≡ false) where
+    pub bad : is_pair c d ≡ false → Err Bad ≡ pairs_read (length b₀) 0 s
+    unfolding pairs_read
+    bad p = sym (w.0 ∙ rw (e, k, p))
+
+    pub bad-into : is_pair c d ≡ false → b ≡ pairs_into b₀ 0 s
     unfolding pairs_into
-    ends-into h = sym (into ∙ rw (drop_of_length-le s h))
+    bad-into p = sym (w.1 ∙ rw (e, k, p))
 
-    pub lone-into : i < length s → length s - i < 2 → b ≡ pairs_into b₀ 0 s
-    unfolding pairs_into
-    lone-into h k = sym (into ∙ rw (one s i h k))
+    module _ (p : is_pair c d ≡ true) where
+      pub no_room : length b ≤ n → Err TooMany ≡ pairs_read (length b₀) 0 s
+      unfolding pairs_read
+      no_room h = let l : length b₀ ≤ n = omega arith in sym (w.0 ∙ rw (e, k, p, le-leb (length b₀) n l))
 
-    module _ (h : 2 ≤ length s - i) (e : is_blank (get_or s i 0) ≡ false) where
-      pub bad-into : is_pair (get_or s i 0) (get_or s (i + 1) 0) ≡ false → b ≡ pairs_into b₀ 0 s
+      pub no-room-into : length b ≤ n → b ≡ pairs_into b₀ 0 s
       unfolding pairs_into
-      bad-into t = sym (into ∙ rw (two s i h, e, t))
+      no-room-into h = sym (w.1 ∙ rw (e, k, p, le-leb (length b) n h))
 
-      module _ (p : is_pair (get_or s i 0) (get_or s (i + 1) 0) ≡ true) where
-        pub no-room-into : length b ≤ n → b ≡ pairs_into b₀ 0 s
-        unfolding pairs_into
-        no-room-into t = sym (into ∙ rw (two s i h, e, p, le-leb (length b) n t))
+      goes_on : n < length b → pairs_read (length b₀) 0 s ≡ pairs_read (length b₀) (n + 1) t
+      unfolding pairs_read
+      goes_on h = let l : n < length b₀ = omega arith in w.0 ∙ rw (e, k, p, lt-leb (length b₀) n l)
 
-        goes-on-into : n < length b → (v : ℕ) → v ≡ byte_of (get_or s i 0) (get_or s (i + 1) 0) → pairs_into b₀ 0 s ≡ pairs_into (set b n v) (n + 1) (drop (i + 2) s)
-        unfolding pairs_into
-        goes-on-into t v ev = into ∙ rw (two s i h, e, p, lt-leb (length b) n t, ev)
+      goes-on-into : n < length b → (v : ℕ) → v ≡ byte_of c d → pairs_into b₀ 0 s ≡ pairs_into (set b n v) (n + 1) t
+      unfolding pairs_into
+      goes-on-into h v f = w.1 ∙ rw (e, k, p, lt-leb (length b) n h, f)
 
-  pub skips : (b₀ b : List ℕ) (n : ℕ) → Reading s b₀ b n i → i < length s → is_blank (get_or s i 0) ≡ true → Reading s b₀ b n (i + 1)
-  skips b₀ b n w h e = (
-    w.0 ∙ rw (add-one i, drop-cons s i 0 h) (skip_read (length b₀) n (get_or s i 0) (drop (suc i) s) e),
-    w.1 ∙ rw (add-one i, drop-cons s i 0 h) (skip-into b n (get_or s i 0) (drop (suc i) s) e),
-    w.2,
-  )
-
-  pub takes : (b₀ b : List ℕ) (n v : ℕ) → Reading s b₀ b n i → 2 ≤ length s - i → is_blank (get_or s i 0) ≡ false → is_pair (get_or s i 0) (get_or s (i + 1) 0) ≡ true → n < length b → v ≡ byte_of (get_or s i 0) (get_or s (i + 1) 0) → Reading s b₀ (set b n v) (n + 1) (i + 2)
-  takes b₀ b n v w h e p t ev = (goes_on b₀ b n w.0 w.2 h e p t, goes-on-into b₀ b n w.1 h e p t v ev, length-set b n v ∙ w.2)
-
--- a pair of digits, one after the other
-pub both : (r s t : Bool) → s ≡ true → r ≡ t → r ≡ (s && t)
-both r s t e h = rw e h
-
-pub not-both : (s t : Bool) → s ≡ false → false ≡ (s && t)
-not-both s t e = rw e
+      pub takes : n < length b → (v : ℕ) → v ≡ byte_of c d → Reading s b₀ (set b n v) (n + 1) t
+      takes h v f = (goes_on h, goes-on-into h v f, length-set b n v ∙ w.2)

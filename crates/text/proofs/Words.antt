@@ -1,13 +1,14 @@
 -- A run of blanks or of other characters, from a place on, character by character.
 --     goes_on, breaks, is-over     the next character belongs to it, does not, or there is none
-use Prim.Native.Nat.{ℕ, ◌+◌, ◌≤◌, ◌<◌}
+--     behind                       it starts at a place of a text
+use Prim.Native.Nat.{ℕ, ◌+◌, ◌-◌, ◌≤◌, ◌<◌}
 use native.Mathlib.Numerals.{add-one}
 use native.Mathlib.Omega.{arith}
 use mathlib.Core.Bool.{Bool, true, false}
 use mathlib.Core.List.{List}
 use mathlib.Core.Path.{◌≡◌}
-use lib.ListN.{length, drop, get_or, drop_of_length-le}
-use lib.Seq.{drop-cons}
+use lib.ListN.{length, take, drop, get_or, drop_of_length-le, length-drop}
+use lib.Seq.{drop-cons, take_all}
 use Rattle.text.specs.Words.{belongs, run_of}
 
 module _ (blank : Bool) (s : List ℕ) (i : ℕ) where
@@ -23,12 +24,16 @@ module _ (blank : Bool) (s : List ℕ) (i : ℕ) where
   unfolding run_of
   none_left h = rw (drop_of_length-le s h)
 
-  module _ (from : ℕ) (e : from + run_of blank (drop from s) ≡ i + run_of blank (drop i s)) where
-    pub goes_on : i < length s → belongs blank (get_or s i 0) ≡ true → from + run_of blank (drop from s) ≡ i + 1 + run_of blank (drop (i + 1) s)
+  module _ (e : run_of blank s ≡ i + run_of blank (drop i s)) where
+    pub goes_on : i < length s → belongs blank (get_or s i 0) ≡ true → run_of blank s ≡ i + 1 + run_of blank (drop (i + 1) s)
     goes_on h t = omega (arith, one_more h t)
 
-    pub breaks : i < length s → belongs blank (get_or s i 0) ≡ false → i ≡ from + run_of blank (drop from s)
+    pub breaks : i < length s → belongs blank (get_or s i 0) ≡ false → i ≡ run_of blank s
     breaks h t = omega (arith, no_more h t)
 
-    pub is-over : length s ≤ i → i ≡ from + run_of blank (drop from s)
-    is-over h = omega (arith, none_left h)
+    pub is-over : length s ≡ i → length s ≡ run_of blank s
+    is-over h = omega (arith, none_left (omega arith))
+
+-- how many stand at the start of the part from a place on, counted from there
+pub behind : (blank : Bool) (s rest : List ℕ) (from n : ℕ) → rest ≡ take (length s - from) (drop from s) → n ≡ run_of blank rest → from + n ≡ from + run_of blank (drop from s)
+behind blank s rest from n e h = rw (h, e, take_all (length s - from) (drop from s) (omega (arith, length-drop from s)))

@@ -9,14 +9,12 @@ pub fn read_full<R: Input>(rt: &R, text: &mut [u8]) -> usize
 {
     let mut input = rt.reader();
     let mut fill = 0;
+    // read_exact would not tell how many characters came before the end.
     while fill < text.len() {
-        let Ok(n) = input.read(&mut text[fill..]) else {
-            return fill;
-        };
-        if n == 0 {
-            return fill;
+        match input.read(&mut text[fill..]) {
+            Ok(0) | Err(_) => return fill,
+            Ok(n) => fill += n,
         }
-        fill += n;
     }
     fill
 }

@@ -19,13 +19,7 @@ impl Output {
     pub fn say<R: Print + Eprint>(self, rt: &R, text: &[u8]) -> Output
         ensures { Said self text.now result }
     {
-        if self.failed {
-            return self;
-        }
-        if text.len() == 0 {
-            return self;
-        }
-        if rt.write_all(text).is_ok() {
+        if self.failed || text.is_empty() || rt.write_all(text).is_ok() {
             return self;
         }
         let _ = rt.eprint("cannot write to standard output\n");

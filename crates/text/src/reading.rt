@@ -4,22 +4,21 @@ ghost use Rattle.text.specs.Numbers.{digit_of, is_digit, number_from, number_of}
 ghost use Rattle.text.specs.Pairs.{is_pair, byte_of, pairs_read, pairs_into};
 ghost use Rattle.text.specs.Words.{is_blank, belongs, run_of, word_from};
 
-// What a text stands for as a number.
-#[derive(Clone, Copy)]
-pub enum Number {
-    Value(u64),
+// Why a text stands for no number of 64 bits.
+#[derive(Clone, Copy, Debug, PartialEq, Eq)]
+pub enum NumberError {
     // A number that 64 bits do not hold.
     TooLarge,
+    // No number.
     Bad,
 }
 
-// What a text gives as bytes.
-#[derive(Clone, Copy)]
-pub enum Bytes {
-    // So many bytes.
-    Count(usize),
+// Why a text gives no bytes.
+#[derive(Clone, Copy, Debug, PartialEq, Eq)]
+pub enum PairsError {
     // More bytes than there is room for.
     TooMany,
+    // No pairs of digits.
     Bad,
 }
 
@@ -30,134 +29,108 @@ pub struct Span {
     pub end: usize,
 }
 
-// What a digit stands for, a hexadecimal one of either case, and 16 for any other character.
+// What a digit stands for, a hexadecimal one of either case, and 16 for any other character. No option: `digit_of` holds it so,
+// and candump looks it up in a table of bytes.
 #[tactic(auto, using(laws::proofs::Branches::branches), unfolding(crate::specs::Numbers::digit_of))]
 pub fn digit(c: u8) -> u8
     ensures { result ≡ digit_of c }
 {
-    if c < b'0' {
-        return 16;
+    match c {
+        b'0'..=b'9' => c - b'0',
+        b'A'..=b'F' => c - b'A' + 10,
+        b'a'..=b'f' => c - b'a' + 10,
+        _ => 16,
     }
-    if c <= b'9' {
-        return c - 48;
-    }
-    if c < b'A' {
-        return 16;
-    }
-    if c <= b'F' {
-        return c - 55;
-    }
-    if c < b'a' {
-        return 16;
-    }
-    if c <= b'f' {
-        return c - 87;
-    }
-    16
 }
 
 // A decimal number, of any length.
-pub fn decimal(s: &[u8]) -> Number
+pub fn decimal(s: &[u8]) -> Result<u64, NumberError>
     ensures { result ≡ number_of 10 s.now }
 {
     in_base(s, 10)
 }
 
 // A hexadecimal number, of any length, its digits of either case.
-pub fn hexadecimal(s: &[u8]) -> Number
+pub fn hexadecimal(s: &[u8]) -> Result<u64, NumberError>
     ensures { result ≡ number_of 16 s.now }
 {
     in_base(s, 16)
 }
 
-// The same as the number that it is.
-fn value(c: u8) -> u64
-    ensures { result ≡ digit_of c }
-{
-    digit(c) as u64
-}
-
 fn is_digit(c: u8, base: u64) -> bool
     ensures { result ≡ is_digit base c }
 {
-    value(c) < base
+    u64::from(digit(c)) < base
 }
 
-fn in_base(s: &[u8], base: u64) -> Number
+fn in_base(s: &[u8], base: u64) -> Result<u64, NumberError>
     requires { 1 ≤ base }
     ensures { result ≡ number_of base s.now }
 {
     if s.len() == 0 {
-        return Number::Bad;
+        return Err(NumberError::Bad);
     }
     let mut n: u64 = 0;
-    let mut i = 0;
-    while i < s.len() {
-        let d = value(s[i]);
-        i += 1;
+    for (i, c) in s.iter().enumerate() {
+        let d = u64::from(digit(*c));
         if base <= d {
-            return Number::Bad;
+            return Err(NumberError::Bad);
         }
         if (u64::MAX - d) / base < n {
-            return too_large(s, i, base);
+            return too_large(&s[i + 1..], base);
         }
         n = n * base + d;
     }
-    Number::Value(n)
+    Ok(n)
 }
 
 // A number that is too large already: what is left of it has to be digits.
-fn too_large(s: &[u8], from: usize, base: u64) -> Number
+fn too_large(rest: &[u8], base: u64) -> Result<u64, NumberError>
     requires { 1 ≤ base }
-    ensures { result ≡ number_from base (2 ^ 64) (drop from s.now) }
+    ensures { result ≡ number_from base (2 ^ 64) rest.now }
 {
-    let mut i = from;
-    while i < s.len() {
-        if is_digit(s[i], base) {
-            i += 1;
-        } else {
-            return Number::Bad;
+    for c in rest {
+        if !is_digit(*c, base) {
+            return Err(NumberError::Bad);
         }
     }
-    Number::TooLarge
+    Err(NumberError::TooLarge)
 }
 
-// Bytes written as pairs of hexadecimal digits, with or without blanks between the pairs, go to the start of bytes.
-pub fn pairs(s: &[u8], bytes: &mut [u8]) -> Bytes
+// Bytes written as pairs of hexadecimal digits, with or without blanks between the pairs, go to the start of bytes; the answer
+// is how many.
+pub fn pairs(s: &[u8], bytes: &mut [u8]) -> Result<usize, PairsError>
     ensures value { result ≡ pairs_read (length bytes.old) 0 s.now }
     ensures bytes_after { bytes.new ≡ pairs_into bytes.old 0 s.now }
 {
     let mut n = 0;
-    let mut i = 0;
-    while i < s.len() {
-        if is_blank(s[i]) {
-            i += 1;
+    let mut rest = s;
+    while let [c, after @ ..] = rest {
+        if is_blank(*c) {
+            rest = after;
             continue;
         }
-        if s.len() - i < 2 {
-            return Bytes::Bad;
+        let [d, behind @ ..] = after else {
+            return Err(PairsError::Bad);
+        };
+        if !are_digits(*c, *d) {
+            return Err(PairsError::Bad);
         }
-        if are_digits(s[i], s[i + 1]) {
-            if bytes.len() <= n {
-                return Bytes::TooMany;
-            }
-            bytes[n] = byte_of(s[i], s[i + 1]);
-            n += 1;
-            i += 2;
-        } else {
-            return Bytes::Bad;
+        if bytes.len() <= n {
+            return Err(PairsError::TooMany);
         }
+        bytes[n] = byte_of(*c, *d);
+        n += 1;
+        rest = behind;
     }
-    Bytes::Count(n)
+    Ok(n)
 }
 
+#[tactic(auto, using(laws::proofs::Branches::branches), unfolding(crate::specs::Pairs::is_pair))]
 fn are_digits(c: u8, d: u8) -> bool
     ensures { result ≡ is_pair c d }
 {
-    if is_digit(c, 16) {
-        return is_digit(d, 16);
-    }
-    false
+    is_digit(c, 16) && is_digit(d, 16)
 }
 
 fn byte_of(c: u8, d: u8) -> u8
@@ -186,38 +159,26 @@ pub fn word(s: &[u8], from: usize) -> Span
 fn run_end(s: &[u8], from: usize, blank: bool) -> usize
     ensures { result ≡ from + run_of blank (drop from s.now) }
 {
-    let mut i = from;
-    while i < s.len() {
-        if belongs(s[i], blank) {
-            i += 1;
-        } else {
-            return i;
+    let rest = part(s, from, s.len());
+    for (i, c) in rest.iter().enumerate() {
+        if !belongs(*c, blank) {
+            return from + i;
         }
     }
-    i
+    from + rest.len()
 }
 
+#[tactic(auto, using(laws::proofs::Branches::branches), unfolding(crate::specs::Words::belongs))]
 fn belongs(c: u8, blank: bool) -> bool
     ensures { result ≡ belongs blank c }
 {
-    if blank {
-        return is_blank(c);
-    }
-    !is_blank(c)
+    if blank { is_blank(c) } else { !is_blank(c) }
 }
 
 // The part from start up to end, as far as the text has it.
 pub fn part(s: &[u8], start: usize, end: usize) -> &[u8]
     ensures { result.now ≡ take (end - start) (drop start s.now) }
 {
-    if s.len() < start {
-        return &s[..0];
-    }
-    if end < start {
-        return &s[..0];
-    }
-    if s.len() < end {
-        return &s[start..];
-    }
-    &s[start..end]
+    let end = end.min(s.len());
+    if end < start { &[] } else { &s[start..end] }
 }

@@ -19,10 +19,8 @@ pub fn bytes(text: &mut [u8], at: usize, s: &[u8]) -> usize
     ensures { Writes text.old at s.now text.new result }
 {
     let mut next = at;
-    let mut i = 0;
-    while i < s.len() {
-        next = byte(text, next, s[i]);
-        i += 1;
+    for c in s {
+        next = byte(text, next, *c);
     }
     next
 }
@@ -31,10 +29,7 @@ pub fn bytes(text: &mut [u8], at: usize, s: &[u8]) -> usize
 pub fn bytes_if(text: &mut [u8], at: usize, given: bool, s: &[u8]) -> usize
     ensures { Writes text.old at (if_given given s.now) text.new result }
 {
-    if given {
-        return bytes(text, at, s);
-    }
-    at
+    if given { bytes(text, at, s) } else { at }
 }
 
 // A hexadecimal digit, in upper case: that of a number's last four bits.
@@ -57,10 +52,8 @@ pub fn pairs(text: &mut [u8], at: usize, s: &[u8]) -> usize
     ensures { Writes text.old at (pairs_of s.now) text.new result }
 {
     let mut next = at;
-    let mut i = 0;
-    while i < s.len() {
-        next = spaced(text, next, s[i]);
-        i += 1;
+    for b in s {
+        next = spaced(text, next, *b);
     }
     next
 }
@@ -113,13 +106,10 @@ fn digits_of(n: u64, digits: &mut [u8; 20]) -> usize
 fn digit_count(n: u64) -> usize
     ensures { IsDigitCount n result }
 {
-    let mut k = 1;
-    let mut rest = n / 10;
-    while rest > 0 {
-        rest /= 10;
-        k += 1;
+    match n.checked_ilog10() {
+        Some(k) => k as usize + 1,
+        None => 1,
     }
-    k
 }
 
 // A number's last k digits to the start of lent ones.
@@ -127,11 +117,9 @@ fn put_digits(n: u64, k: usize, digits: &mut [u8])
     requires { k ≤ length digits.old }
     ensures { take k digits.new ≡ last_digits k n }
 {
-    let mut i = k;
     let mut rest = n;
-    while i > 0 {
-        i -= 1;
-        digits[i] = b'0' + (rest % 10) as u8;
+    for i in 0..k {
+        digits[k - 1 - i] = b'0' + (rest % 10) as u8;
         rest /= 10;
     }
 }

@@ -21,11 +21,11 @@ struct Console {
     session: Session,
 }
 
-// A call that a control unit alone has.
+// What the call asks for that a control unit alone has.
 #[derive(Clone, Copy)]
-enum Own {
-    Wrong,
-    Set { settings: Settings, reply: u8 },
+struct Set {
+    settings: Settings,
+    reply: u8,
 }
 
 // Its name, as the number that the letters make.
@@ -126,12 +126,12 @@ impl Console {
         }
     }
 
-    fn own<R: Print + Eprint>(self, rt: &R, own: Own, text: &mut [u8]) -> Console {
+    fn own<R: Print + Eprint>(self, rt: &R, own: Option<Set>, text: &mut [u8]) -> Console {
         let unit = self.unit;
         let session = self.session;
         match own {
-            Own::Wrong => self.with(session.wrong(rt, text)),
-            Own::Set { settings, reply } => self.answered(rt, unit.set(settings, reply), text),
+            None => self.with(session.wrong(rt, text)),
+            Some(Set { settings, reply }) => { self.answered(rt, unit.set(settings, reply), text) }
         }
     }
 
@@ -239,27 +239,27 @@ fn arrive(unit: ControlUnit, id: u16, bytes: &[u8], buffer: &mut [u8], room: usi
 }
 
 // The twelfth word is the reply; a number too large for it is read as 0, which is no reply.
-fn read_own(name: u64, words: &[u8]) -> Own {
+fn read_own(name: u64, words: &[u8]) -> Option<Set> {
     if name != SET {
-        return Own::Wrong;
+        return None;
     }
     if words.len() == 0 {
         let unit = ControlUnit::closed();
         let settings = unit.settings;
-        return Own::Set {
+        return Some(Set {
             settings,
             reply: unit.reply,
-        };
+        });
     }
     let given = numbers::settings(words);
     let settings = given.settings;
     let eleven = given.numbers;
     let read = eleven.next(words, 255);
     if read.are_all(words) {
-        return Own::Set {
+        return Some(Set {
             settings,
             reply: (read.value % 256) as u8,
-        };
+        });
     }
-    Own::Wrong
+    None
 }

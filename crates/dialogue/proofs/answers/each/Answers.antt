@@ -5,12 +5,14 @@ use Rattle.dialogue.specs.Answers.{saids_of}
 use Rattle.dialogue.proofs.Sentences.{said_more, said_each}
 use Rattle.dialogue.proofs.answers.each.Goals as goal
 
-pub loop-i-init : goal.loop-i-init
+pub loop-next-init : goal.loop-next-init
 unfolding saids_of
-loop-i-init c = (none _ _, omega arith, omega arith)
+loop-next-init c = none _ _
 
-pub loop-i-preserved : goal.loop-i-preserved
-loop-i-preserved c = (said_more c.args.said c.loop-i.i _ _ _ _ _ _ _ _ _ c.loop-i.invariant.0 c.byte-at.ensures c.number-at-in-loop-i.ensures (omega arith) (omega arith), omega arith, omega arith)
+pub loop-next-preserved : goal.loop-next-preserved
+loop-next-preserved c = said_more _ _ _ _ _ _ _ _ _ _ _ c.loop-next.invariant c.byte-at.ensures c.number-at-in-loop-next.ensures c.loop-next-test.true
 
 pub returns : goal.returns
-returns c = joined3 _ _ _ _ _ _ _ _ _ _ _ _ c.number-at.ensures c.loop-i.invariant.0 c.byte.ensures (said_each c.args.said _ c.loop-i.i (omega arith) (omega arith))
+returns c =
+    joined3 _ _ _ _ _ _ _ _ _ _ _ _ c.number-at.ensures c.loop-next.invariant c.byte.ensures
+    (said_each c.args.said _ 7 c.loop-next.next-index (omega arith) (omega arith) c.loop-next-test.false)

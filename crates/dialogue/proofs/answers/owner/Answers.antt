@@ -1,13 +1,12 @@
 -- A place, or none.
-use Rattle.laws.proofs.Branches.{branches}
 use Rattle.text.proofs.Written.{joined, worded}
 use Rattle.dialogue.specs.Answers.{owner_of}
 use Rattle.dialogue.proofs.answers.owner.Goals as goal
 
-pub returns-then-named : goal.returns-then-named
+pub returns-in-Some : goal.returns-in-Some
 unfolding owner_of
-returns-then-named c = search (joined, branches)
+returns-in-Some c = rw c.in-Some.is (search joined)
 
-pub returns : goal.returns
+pub returns-in-None : goal.returns-in-None
 unfolding owner_of
-returns c = search (worded, branches)
+returns-in-None c = rw c.in-None.is (search worded)

@@ -3,5 +3,5 @@ use Rattle.std.proofs.Common.{arith}
 use Rattle.dialogue.proofs.LineEnds.{goes_on}
 use Rattle.dialogue.proofs.lines.read_line.Goals as goal
 
-pub loop-turns-preserved : goal.loop-turns-preserved
-loop-turns-preserved g c = goes_on _ _ _ _ _ _ c.loop-turns.invariant c.byte-fill.ensures (λ z. omega arith)
+pub loop-preserved : goal.loop-preserved
+loop-preserved g c = goes_on _ _ _ _ _ _ c.loop.invariant c.byte-fill.ensures (λ z. omega arith)

@@ -1,20 +1,9 @@
--- One digit less is left.
-use native.Mathlib.Omega.{arith}
-use mathlib.Core.Path.{ap, ◌∙◌}
-use Prim.Native.Nat.{ℕ, ◌/◌}
-use Rattle.text.proofs.Decimal.{div-pow-one, div-pow-div, pow-le_of_div_pos, lt-pow_of_div-zero}
+-- Some power of ten is no larger than the number, or it is 0.
+use Rattle.text.proofs.Decimal.{counted, one-digit}
 use Rattle.text.proofs.writing.digit_count.Goals as goal
 
-pub loop-rest-init : goal.loop-rest-init
-loop-rest-init c = (omega arith, omega arith, div-pow-one c.args.n, omega arith)
+pub returns-in-Some : goal.returns-in-Some
+returns-in-Some c = counted _ _ c.in-Some.ensures.power_le c.in-Some.ensures.next_power_gt
 
-pub loop-rest-preserved : goal.loop-rest-preserved
-loop-rest-preserved c =
-    let l = c.loop-rest in
-    let n = c.args.n in
-    (omega arith, omega arith, ap (λ (m : ℕ). m / 10) l.invariant.2 ∙ div-pow-div n l.k, λ _. pow-le_of_div_pos n l.k (omega arith))
-
-pub returns : goal.returns
-returns c =
-    let l = c.loop-rest in
-    (omega arith, lt-pow_of_div-zero c.args.n l.k (omega arith), λ more. l.invariant.3 (omega arith))
+pub returns-in-None : goal.returns-in-None
+returns-in-None c = one-digit _ c.in-None.ensures.none

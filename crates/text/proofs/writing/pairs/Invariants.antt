@@ -1,11 +1,7 @@
--- The pairs of the bytes before the place i are written.
-use Prim.Native.Nat.{◌-◌}
-use lib.ListN.{length, take}
+-- The pairs of the bytes passed are written.
+use lib.ListN.{take}
 use Rattle.text.specs.Written.{Writes, pairs_of}
 use Rattle.text.proofs.writing.pairs.Given as goal
 
-abbrev pub invariant-loop-i : goal.invariant-loop-i
-invariant-loop-i l = Writes l.initial.text l.at (pairs_of (take l.i l.s)) l.text l.next
-
-abbrev pub decreases-loop-i : goal.decreases-loop-i
-decreases-loop-i l = length l.s - l.i
+abbrev pub invariant-loop-b : goal.invariant-loop-b
+invariant-loop-b l = Writes l.initial.text l.at (pairs_of (take l.b-index l.s)) l.text l.next

@@ -1,9 +1,9 @@
 -- The last digit that is still to write goes before those that are written.
 use native.Mathlib.Omega.{arith}
 use mathlib.Core.Path.{◌≡◌, refl, sym, ap, subst, ◌∙◌}
-use mathlib.Core.List.{List, [], ◌∷◌, ◌++◌}
+use mathlib.Core.List.{List, [], ◌∷◌, ◌++◌, append-nil}
 use Prim.Native.Nat.{ℕ, zero, suc, ◌+◌, ◌-◌, ◌/◌, ◌%◌, ◌≤◌, ◌<◌}
-use lib.ListN.{length, take, drop, set, length-set}
+use lib.ListN.{length, take, drop, set, drop_of_length-le}
 use lib.Seq.{slice, length-take-le, take-set-lt, append_snoc}
 use native.Mathlib.Nat.{le_of_suc-le-suc, not-suc-le-zero}
 use native.Mathlib.Numerals.{sub-one}
@@ -30,8 +30,19 @@ digits_step (suc j) k rest out some h room =
     ∙ ap (λ (l : List ℕ). todo ++ l) (drop-set (take k out) j g within)
     ∙ sym (append_snoc todo g done)
 
+pub loop-i-init : goal.loop-i-init
+loop-i-init c =
+    let e : c.args.k - 0 ≡ c.args.k = omega arith in
+    let h : length (take c.args.k c.args.digits.now) ≤ c.args.k = omega (arith, length-take-le c.args.k c.args.digits.now c.requires) in
+    rw (e, drop_of_length-le (take c.args.k c.args.digits.now) h) (append-nil _)
+
 pub loop-i-preserved : goal.loop-i-preserved
 loop-i-preserved c =
     let l = c.loop-i in
     let a = c.args in
-    (simp length-set l.invariant.0, omega arith, digits_step l.i a.k l.rest l.digits (omega arith) l.invariant.1 (omega arith) ∙ l.invariant.2)
+    let p : a.k - (l.i + 1) ≡ a.k - l.i - 1 = omega arith in
+    let q : a.k - 1 - l.i ≡ a.k - l.i - 1 = omega arith in
+    rw (p, q) (digits_step (a.k - l.i) a.k l.rest l.digits (omega arith) (omega arith) (omega arith) ∙ l.invariant)
+
+pub returns : goal.returns
+returns c = let e : c.args.k - c.loop-i.i ≡ 0 = omega arith in rw e at c.loop-i.invariant

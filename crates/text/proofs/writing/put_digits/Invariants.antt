@@ -1,14 +1,10 @@
--- The digits still to write, and then those written, are the digits of n.
+-- The digits still to write, and then the i that are written, are the digits of n.
 use mathlib.Core.Path.{◌≡◌}
 use mathlib.Core.List.{◌++◌}
-use Prim.Native.Nat.{◌≤◌}
-use lib.ListN.{length}
+use Prim.Native.Nat.{◌-◌}
 use lib.Seq.{slice}
 use Rattle.text.specs.Digits.{last_digits}
 use Rattle.text.proofs.writing.put_digits.Given as goal
 
 abbrev pub invariant-loop-i : goal.invariant-loop-i
-invariant-loop-i l = (length l.digits ≡ length l.initial.digits) × (l.i ≤ l.k) × (last_digits l.i l.rest ++ slice l.i l.k l.digits ≡ last_digits l.k l.n)
-
-abbrev pub decreases-loop-i : goal.decreases-loop-i
-decreases-loop-i l = l.i
+invariant-loop-i l = last_digits (l.k - l.i) l.rest ++ slice (l.k - l.i) l.k l.digits ≡ last_digits l.k l.n
