@@ -6,3 +6,5 @@ pub mod complaints;
 pub mod failures;
 pub mod lines;
 pub mod options;
+pub mod waiting;
+pub mod words;

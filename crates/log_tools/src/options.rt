@@ -1,72 +1,112 @@
 // The words that a tool is started with: `[--room N] [--chunk N] [FILE]`, and `[--places N]` before them for a tool that makes a
 // list; options in any order before the file, each at most once. They are taken one by one; the first that is wrong is kept,
 // with what is wrong about it.
-ghost use Rattle.std.specs.Prelude.{◌≡◌};
-ghost use Rattle.log_tools.specs.Options.{same, is_option, fresh, wrong, awaiting, roomed, chunked, placed, named, on_room, on_chunk, on_places, on_option, word_taken, held_taken, words_ended};
+ghost use Rattle.std.specs.Prelude.{◌≡◌, take};
+ghost use Rattle.log_tools.specs.Options.{is_option, fresh, takes, default_of, given, number_for, refused, awaiting, numbered, named, option_named, on_number, on_option, word_taken, held_taken, words_ended};
 
 use telegram::cutting::LONGEST;
 use text::reading::{NumberError, decimal, part};
+
+// The options, each of which has a number behind it.
+#[derive(Clone, Copy)]
+pub enum Name {
+    // The bytes lent for a message of each side.
+    Room,
+    // The characters read at a time.
+    Chunk,
+    // The places of the list.
+    Places,
+}
+
+// What can be wrong.
+#[derive(Clone, Copy)]
+pub enum Fault {
+    NoOption,
+    Twice,
+    // No number that the option takes, or none at all.
+    NoNumber(Name),
+    // A word behind the file.
+    SecondFile,
+}
+
+// What is wrong, and the place of the word that is; None where a word is missing.
+#[derive(Clone, Copy)]
+pub struct Wrong {
+    pub fault: Fault,
+    pub place: Option<usize>,
+}
 
 // What the words came to.
 #[derive(Clone, Copy)]
 pub struct Options {
     // Whether the tool makes a list, and so has the option of its places.
     pub lists: bool,
-    // The bytes lent for a message of each side, the characters read at a time, and the places of the list.
-    pub room: usize,
-    pub chunk: usize,
-    pub places: usize,
-    pub room_given: bool,
-    pub chunk_given: bool,
-    pub places_given: bool,
-    // The option whose number comes next: 0 none, 1 room, 2 chunk, 3 places.
-    pub awaits: u8,
-    // The place of the file's name among the words; 0 for none.
-    pub file: usize,
-    // What is wrong: 0 nothing, 1 no such option, 2 an option given twice, 3 no number of room, 4 no number of chunk, 5 a word
-    // behind the file, 6 no number of places.
-    pub fault: u8,
-    // The place of the word that is wrong.
-    pub place: usize,
+    // The numbers given.
+    pub room: Option<usize>,
+    pub chunk: Option<usize>,
+    pub places: Option<usize>,
+    // The option whose number comes next.
+    pub awaits: Option<Name>,
+    // The place of the file's name among the words.
+    pub file: Option<usize>,
+    // The first word that is wrong.
+    pub wrong: Option<Wrong>,
 }
 
-// What can be wrong, as the field `fault` tells it.
-pub const NO_OPTION: u8 = 1;
-
-pub const TWICE: u8 = 2;
-
-pub const NO_ROOM: u8 = 3;
-
-pub const NO_CHUNK: u8 = 4;
-
-pub const SECOND_FILE: u8 = 5;
-
-pub const NO_PLACES: u8 = 6;
-
-// Whether two texts are alike.
-fn same(s: &[u8], t: &[u8]) -> bool
-    ensures { result ≡ same s.now t.now }
+// Lends so much of a buffer, as far as it goes.
+pub fn lend<T>(buffer: &mut [T], length: usize) -> &mut [T]
+    ensures { result.now ≡ take length buffer.old }
 {
-    let mut i = 0;
-    while i < s.len() {
-        if t.len() <= i {
-            return false;
-        }
-        if s[i] != t[i] {
-            return false;
-        }
-        i += 1;
-    }
-    t.len() <= i
+    let end = length.min(buffer.len());
+    &mut buffer[..end]
 }
 
 fn is_option(word: &[u8]) -> bool
     ensures { result ≡ is_option word.now }
 {
-    if word.len() == 0 {
-        return false;
+    word.starts_with(b"-")
+}
+
+// The option of a name; that of places for a tool that makes a list.
+#[tactic(auto, using(laws::proofs::Branches::branches), unfolding(crate::specs::Options::option_named))]
+fn option_named(lists: bool, word: &[u8]) -> Option<Name>
+    ensures { result ≡ option_named lists word.now }
+{
+    if word == b"--room".as_slice() {
+        Some(Name::Room)
+    } else if word == b"--chunk".as_slice() {
+        Some(Name::Chunk)
+    } else if lists && word == b"--places".as_slice() {
+        Some(Name::Places)
+    } else {
+        None
     }
-    word[0] == b'-'
+}
+
+impl Name {
+    // Whether the option takes a number.
+    #[tactic(auto, unfolding(crate::specs::Options::takes))]
+    fn takes(self, n: u64) -> bool
+        ensures { result ≡ takes self n }
+    {
+        match self {
+            Name::Room => n <= 4095,
+            Name::Chunk => 1 <= n && n <= 65536,
+            Name::Places => n <= 4096,
+        }
+    }
+
+    // The number where none is given.
+    #[tactic(auto, unfolding(crate::specs::Options::default_of))]
+    fn default(self) -> usize
+        ensures { result ≡ default_of self }
+    {
+        match self {
+            Name::Room => LONGEST as usize,
+            Name::Chunk => 65536,
+            Name::Places => 4096,
+        }
+    }
 }
 
 impl Options {
@@ -76,41 +116,38 @@ impl Options {
     {
         Options {
             lists,
-            room: LONGEST as usize,
-            chunk: 65536,
-            places: 4096,
-            room_given: false,
-            chunk_given: false,
-            places_given: false,
-            awaits: 0,
-            file: 0,
-            fault: 0,
-            place: 0,
+            room: None,
+            chunk: None,
+            places: None,
+            awaits: None,
+            file: None,
+            wrong: None,
         }
     }
 
+    // The number given for an option, or the one that stands where none is.
+    pub fn number(self, option: Name) -> usize
+        ensures { result ≡ number_for self option }
+    {
+        self.given(option).unwrap_or(option.default())
+    }
+
     // The word at a place, from 1, behind those taken.
-    #[tactic(auto, using(laws::proofs::Branches::branches), unfolding(crate::specs::Options::word_taken))]
+    #[tactic(auto, using(laws::proofs::Branches::branches), unfolding(crate::specs::Options::word_taken, crate::specs::Options::next_taken))]
     pub fn take_word(self, place: usize, word: &[u8]) -> Options
         ensures { result ≡ word_taken self place word.now }
     {
-        if self.fault != 0 {
+        if self.wrong.is_some() {
             return self;
         }
-        if self.awaits == 1 {
-            return self.on_room(place, decimal(word));
+        if let Some(option) = self.awaits {
+            return self.on_number(option, place, decimal(word));
         }
-        if self.awaits == 2 {
-            return self.on_chunk(place, decimal(word));
-        }
-        if self.awaits == 3 {
-            return self.on_places(place, decimal(word));
-        }
-        if self.file != 0 {
-            return self.wrong(SECOND_FILE, place);
+        if self.file.is_some() {
+            return self.refused(Fault::SecondFile, Some(place));
         }
         if is_option(word) {
-            return self.on_option(place, word);
+            return self.on_option(place, option_named(self.lists, word));
         }
         self.named(place)
     }
@@ -120,146 +157,91 @@ impl Options {
     pub fn take_held(self, place: usize, buffer: &[u8], n: usize) -> Options
         ensures { result ≡ held_taken self place buffer.now n }
     {
-        if (buffer.len() <= n) & (self.awaits != 0) {
+        if buffer.len() <= n && self.awaits.is_some() {
             return self.take_word(place, b"");
         }
         self.take_word(place, part(buffer, 0, n))
     }
 
     // No word is left.
-    #[tactic(auto, using(laws::proofs::Branches::branches), unfolding(crate::specs::Options::words_ended))]
+    #[tactic(auto, using(laws::proofs::Branches::branches), unfolding(crate::specs::Options::words_ended, crate::specs::Options::number_missing))]
     pub fn end(self) -> Options
         ensures { result ≡ words_ended self }
     {
-        if self.fault != 0 {
+        if self.wrong.is_some() {
             return self;
         }
-        if self.awaits == 1 {
-            return self.wrong(NO_ROOM, 0);
-        }
-        if self.awaits == 2 {
-            return self.wrong(NO_CHUNK, 0);
-        }
-        if self.awaits == 3 {
-            return self.wrong(NO_PLACES, 0);
-        }
-        self
+        let Some(option) = self.awaits else {
+            return self;
+        };
+        self.refused(Fault::NoNumber(option), None)
     }
 
-    fn wrong(mut self, fault: u8, place: usize) -> Options
-        ensures { result ≡ wrong self fault place }
+    #[tactic(auto, unfolding(crate::specs::Options::given))]
+    fn given(self, option: Name) -> Option<usize>
+        ensures { result ≡ given self option }
     {
-        self.fault = fault;
-        self.place = place;
-        self
+        match option {
+            Name::Room => self.room,
+            Name::Chunk => self.chunk,
+            Name::Places => self.places,
+        }
     }
 
-    fn awaiting(mut self, option: u8) -> Options
-        ensures { result ≡ awaiting self option }
+    fn refused(self, fault: Fault, place: Option<usize>) -> Options
+        ensures { result ≡ refused self fault place }
     {
-        self.awaits = option;
-        self.fault = 0;
-        self.place = 0;
-        self
+        Options {
+            wrong: Some(Wrong { fault, place }),
+            ..self
+        }
     }
 
-    fn named(mut self, place: usize) -> Options
+    fn named(self, place: usize) -> Options
         ensures { result ≡ named self place }
     {
-        self.file = place;
-        self.fault = 0;
-        self.place = 0;
-        self
-    }
-
-    fn roomed(mut self, n: usize) -> Options
-        ensures { result ≡ roomed self n }
-    {
-        self.room = n;
-        self.room_given = true;
-        self.awaits = 0;
-        self.fault = 0;
-        self.place = 0;
-        self
-    }
-
-    fn chunked(mut self, n: usize) -> Options
-        ensures { result ≡ chunked self n }
-    {
-        self.chunk = n;
-        self.chunk_given = true;
-        self.awaits = 0;
-        self.fault = 0;
-        self.place = 0;
-        self
-    }
-
-    fn placed(mut self, n: usize) -> Options
-        ensures { result ≡ placed self n }
-    {
-        self.places = n;
-        self.places_given = true;
-        self.awaits = 0;
-        self.fault = 0;
-        self.place = 0;
-        self
-    }
-
-    #[tactic(auto, using(laws::proofs::Branches::branches), unfolding(crate::specs::Options::on_room))]
-    fn on_room(self, place: usize, number: Result<u64, NumberError>) -> Options
-        ensures { result ≡ on_room self place number }
-    {
-        match number {
-            Ok(n) if n <= 4095 => self.roomed(n as usize),
-            _ => self.wrong(NO_ROOM, place),
+        Options {
+            file: Some(place),
+            ..self
         }
     }
 
-    #[tactic(auto, using(laws::proofs::Branches::branches), unfolding(crate::specs::Options::on_chunk))]
-    fn on_chunk(self, place: usize, number: Result<u64, NumberError>) -> Options
-        ensures { result ≡ on_chunk self place number }
+    #[tactic(auto, unfolding(crate::specs::Options::numbered))]
+    fn numbered(mut self, option: Name, n: usize) -> Options
+        ensures { result ≡ numbered self option n }
     {
-        match number {
-            Ok(n) if (1 <= n) & (n <= 65536) => self.chunked(n as usize),
-            _ => self.wrong(NO_CHUNK, place),
+        self.awaits = None;
+        match option {
+            Name::Room => self.room = Some(n),
+            Name::Chunk => self.chunk = Some(n),
+            Name::Places => self.places = Some(n),
         }
+        self
     }
 
-    #[tactic(auto, using(laws::proofs::Branches::branches), unfolding(crate::specs::Options::on_places))]
-    fn on_places(self, place: usize, number: Result<u64, NumberError>) -> Options
-        ensures { result ≡ on_places self place number }
+    #[tactic(auto, using(laws::proofs::Branches::branches), unfolding(crate::specs::Options::on_number))]
+    fn on_number(self, option: Name, place: usize, number: Result<u64, NumberError>) -> Options
+        ensures { result ≡ on_number self option place number }
     {
         match number {
-            Ok(n) if n <= 4096 => self.placed(n as usize),
-            _ => self.wrong(NO_PLACES, place),
+            Ok(n) if option.takes(n) => self.numbered(option, n as usize),
+            _ => self.refused(Fault::NoNumber(option), Some(place)),
         }
     }
 
     #[tactic(auto, using(laws::proofs::Branches::branches), unfolding(crate::specs::Options::on_option))]
-    fn on_option(self, place: usize, word: &[u8]) -> Options
-        ensures { result ≡ on_option self place word.now }
+    fn on_option(self, place: usize, option: Option<Name>) -> Options
+        ensures { result ≡ on_option self place option }
     {
-        if same(word, b"--room") {
-            if self.room_given {
-                return self.wrong(TWICE, place);
-            }
-            return self.awaiting(1);
+        let Some(option) = option else {
+            return self.refused(Fault::NoOption, Some(place));
+        };
+        if self.given(option).is_some() {
+            return self.refused(Fault::Twice, Some(place));
         }
-        if same(word, b"--chunk") {
-            if self.chunk_given {
-                return self.wrong(TWICE, place);
-            }
-            return self.awaiting(2);
+        Options {
+            awaits: Some(option),
+            ..self
         }
-        if !self.lists {
-            return self.wrong(NO_OPTION, place);
-        }
-        if same(word, b"--places") {
-            if self.places_given {
-                return self.wrong(TWICE, place);
-            }
-            return self.awaiting(3);
-        }
-        self.wrong(NO_OPTION, place)
     }
 }

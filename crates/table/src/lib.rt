@@ -24,7 +24,7 @@ pub struct Table {
     pub places: [Connection; PLACES],
 }
 
-// Each call has a result of its own, since each tells something else beside the table.
+// An opening and an arrival have results of their own, since they tell a place beside what `Answered` and `Arrived` of a record do.
 
 // What an opening tells, the place that it took, if it took one, and the table that it leaves.
 #[derive(Clone, Copy)]

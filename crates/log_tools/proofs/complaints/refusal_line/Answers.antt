@@ -5,4 +5,4 @@ use Rattle.log_tools.proofs.complaints.refusal_line.Goals as goal
 
 pub returns : goal.returns
 unfolding refusal_line
-returns c = search joined4
+returns c = joined4 _ _ _ _ _ _ _ _ _ _ _ _ _ _ _ c.title-at.ensures c.bytes-at.ensures c.word_at-at.ensures c.byte.ensures (rw c.fault_text.ensures)
