@@ -319,7 +319,12 @@ impl Console {
         self.telling(rt, table, Carried::marked(told.said, false), &[], text)
     }
 
-    fn answered<R: Print + Eprint>(self, rt: &R, answered: Answered<Table>, text: &mut [u8]) -> Console {
+    fn answered<R: Print + Eprint>(
+        self,
+        rt: &R,
+        answered: Answered<Table>,
+        text: &mut [u8],
+    ) -> Console {
         let told = answered.told;
         let next = answered.left;
         self.telling(rt, next, Carried::marked(told.said, false), &[], text)
