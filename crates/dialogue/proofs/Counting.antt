@@ -13,8 +13,6 @@ use Rattle.std.specs.Prelude.{Result, Ok, Err}
 use Rattle.text.specs.declared.reading.NumberError.{NumberError}
 use Rattle.text.specs.declared.reading.NumberError.TheVariants.{TooLarge, Bad}
 use Rattle.dialogue.specs.declared.numbers.Numbers.{Numbers}
-use Rattle.dialogue.specs.declared.session.Session.{Session}
-use Rattle.dialogue.specs.Session.{turns_left}
 use Rattle.dialogue.specs.Numbers.{no_numbers, with_number, next_number, largest, after_words, out_of_range_if, given_by}
 
 holds : (n : Numbers) (at most : ℕ) (d : Result ℕ NumberError) → (with_number n at most d).value ≤ most
@@ -76,7 +74,3 @@ module _ (s : List ℕ) (n₀ n₁ n₂ n₃ n₄ n₅ n₆ n₇ n₈ n₉ n₁�
 pub is-refused : (s : Settings) → map (λ (p : Profile). allowed_by p (out_of_range_if true s)) (tp20 ∷ drive ∷ comfort ∷ high ∷ low ∷ []) ≡ replicate 5 false
 unfolding allowed_by within
 is-refused s = refl
-
-pub no_more : (s : Session) (n r : ℕ) → r ≡ turns_left s n → r ≤ n
-unfolding turns_left
-no_more s n r e = rw e (by (λ m. m ≤ n) s.ended (λ _. omega arith) (λ _. by (λ m. m ≤ n) s.output.failed (λ _. omega arith) (λ _. omega arith)))

@@ -21,10 +21,6 @@ next_line s ended = record { room = s.room; length = s.length; lines = (s.lines 
 abbrev pub is_over : Session → Bool
 is_over s = s.ended || s.output.failed
 
--- of so many turns, none is left when the input has ended or the output takes no more
-unfoldable pub turns_left : Session → ℕ → ℕ
-turns_left s turns = if s.ended then 0 else if s.output.failed then 0 else turns
-
 -- so many bytes are lent
 abbrev pub lending : Session → ℕ → Session
 lending s room = record { room = room; length = s.length; lines = s.lines; ended = s.ended; output = s.output }

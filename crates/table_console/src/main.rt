@@ -7,14 +7,15 @@ use channel::Answer::NotDue;
 use dialogue::answers::Carried;
 use dialogue::calls::Call;
 use dialogue::lines::read_line;
-use dialogue::numbers::{Opening, read_opening};
+use dialogue::numbers::read_opening;
 use dialogue::places::{Asked, read_asked};
 use dialogue::session::{Session, clear};
 use dialogue::words::{behind_word, only_id};
 use open_end::answers::{Answer, Answered, Due, Said, TakeStep, tell};
 use open_end::shown;
-use table::{Arrived, PLACES, Table};
-use text::reading::Number;
+use settings::Settings;
+use table::{Arrived, Opened, PLACES, Table};
+use text::reading::NumberError;
 use text::{reading, writing};
 
 // What is kept from line to line, beside what is lent.
@@ -67,12 +68,11 @@ fn talk<R: Input + Print + Eprint>(rt: &R) {
         messages: [0; 32768],
     };
     let mut c = anew(Session::fresh());
-    let mut turns = u64::MAX;
-    while 0 < turns {
-        turns -= 1;
+    for _ in 0..u64::MAX {
         c = c.turn(rt, &mut lent);
-        let session = c.session;
-        turns = session.turns_left(turns);
+        if c.session.is_over() {
+            return;
+        }
     }
 }
 
@@ -132,8 +132,8 @@ impl Console {
         } = lent;
         let table = self.table;
         let session = self.session;
-        let place = asked.place;
-        let call = asked.call;
+        let Asked { place: named, call } = asked;
+        let place = named.unwrap_or(0);
         match call {
             Call::Nothing => self,
             Call::Wrong => self.with(session.wrong(rt, text)),
@@ -141,7 +141,7 @@ impl Console {
             Call::Frame { id, count } => {
                 self.arrived(rt, self.arriving(id, shown(bytes, count), buffers), text)
             }
-            Call::Time(tenths) => self.elapsed(rt, asked.named, place, tenths, text),
+            Call::Time(tenths) => self.elapsed(rt, named, tenths, text),
             Call::Due => {
                 let message = shown(part(messages, place), self.kept(place).length as usize);
                 self.handed(rt, table.due(place, message), text)
@@ -172,36 +172,30 @@ impl Console {
         }
     }
 
-    fn opened<R: Print + Eprint>(self, rt: &R, opening: Opening, text: &mut [u8]) -> Console {
-        let table = self.table;
-        let session = self.session;
-        match opening {
-            Opening::Wrong => self.with(session.wrong(rt, text)),
-            Opening::With(settings) => {
-                let opened = table.open(settings);
-                let told = opened.told;
-                let place = opened.place;
-                let next = opened.left;
-                self.telling_at(rt, next, Carried::marked(told.said, false), place, text)
-            }
-        }
+    fn opened<R: Print + Eprint>(
+        self,
+        rt: &R,
+        opening: Option<Settings>,
+        text: &mut [u8],
+    ) -> Console {
+        let Some(settings) = opening else {
+            return self.with(self.session.wrong(rt, text));
+        };
+        let Opened { told, place, left } = self.table.open(settings);
+        self.telling_at(rt, left, Carried::marked(told.said, false), place, text)
     }
 
-    fn owned<R: Print + Eprint>(self, rt: &R, id: Number, text: &mut [u8]) -> Console {
-        let session = self.session;
-        match id {
-            Number::Value(n) => self.owner(rt, (n % 65536) as u16, text),
-            Number::TooLarge => self.with(session.wrong(rt, text)),
-            Number::Bad => self.with(session.wrong(rt, text)),
-        }
-    }
-
-    fn owner<R: Print + Eprint>(self, rt: &R, id: u16, text: &mut [u8]) -> Console {
-        let session = self.session;
-        match self.table.owner(id) {
-            None => self.with(session.tell_owner(rt, false, 0, text)),
-            Some(p) => self.with(session.tell_owner(rt, true, p, text)),
-        }
+    fn owned<R: Print + Eprint>(
+        self,
+        rt: &R,
+        id: Result<u64, NumberError>,
+        text: &mut [u8],
+    ) -> Console {
+        let Ok(n) = id else {
+            return self.with(self.session.wrong(rt, text));
+        };
+        let owner = self.table.owner((n % 65536) as u16);
+        self.with(self.session.tell_owner(rt, owner, text))
     }
 
     fn renewed<R: Print + Eprint>(self, rt: &R, buffers: &mut [u8]) -> Console {
@@ -227,16 +221,14 @@ impl Console {
     fn elapsed<R: Print + Eprint>(
         self,
         rt: &R,
-        named: bool,
-        place: u8,
+        place: Option<u8>,
         tenths: u64,
         text: &mut [u8],
     ) -> Console {
-        let table = self.table;
-        if named {
-            return self.answered(rt, table.elapse(place, tenths), text);
-        }
-        self.each_elapsed(rt, tenths, text)
+        let Some(place) = place else {
+            return self.each_elapsed(rt, tenths, text);
+        };
+        self.answered(rt, self.table.elapse(place, tenths), text)
     }
 
     fn each_elapsed<R: Print + Eprint>(self, rt: &R, tenths: u64, text: &mut [u8]) -> Console {
