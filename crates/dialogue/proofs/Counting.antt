@@ -2,7 +2,6 @@
 --     all-given                eleven words that were cut out
 --     fits_byte, fits_word     what was read fits its setting
 --     is-refused               and what does not makes settings out of range
---     no_more                  turns never become more
 use Rattle.std.proofs.Common.{◌≡◌, ℕ, suc, ◌≤◌, true, false, List, [], ◌∷◌, map, get_or, replicate, refl, ◌∙◌, arith, w8, w16, Fits}
 use Rattle.laws.proofs.Cases.{by, by-lt}
 use Rattle.profile.specs.Profile.{within, tp20, drive, comfort, high, low}
