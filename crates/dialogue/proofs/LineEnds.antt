@@ -2,17 +2,13 @@
 --     SoFar              what was read of a line, and where it stands
 --     begins, goes_on    nothing yet, and a character more that is no LF
 --     ends, is_cut       the input ends, or an LF comes
-use Rattle.std.proofs.Common.{◌≡◌, ℕ, ◌+◌, ◌<◌, ◌≤◌, min, true, false, eqb, ltb, List, [], ◌∷◌, ◌++◌, length, get_or, sym, ap, ◌∙◌, not-suc-le-zero, arith, length-append, ltb-false, ltb-true}
-use lib.ListN.{get_or-eq_default, get_or-append}
+use Rattle.std.proofs.Common.{◌≡◌, ℕ, ◌+◌, ◌<◌, ◌≤◌, min, true, false, ltb, List, [], ◌∷◌, ◌++◌, length, get_or, sym, ap, ◌∙◌, not-suc-le-zero, arith, length-append, ltb-false, ltb-true}
+use lib.ListN.{get_or-append}
 use lib.Seq.{get_or_at}
 use Rattle.laws.proofs.Cases.{either}
 use Rattle.text.specs.Written.{Writes}
 use Rattle.text.proofs.Written.{none, then}
 use Rattle.dialogue.specs.Lines.{without_return, LineRead}
-
--- no CR stands past the end
-pub past_the_end : (s : List ℕ) (k : ℕ) → length s ≤ k → eqb (get_or s k 0) 13 ≡ false
-past_the_end s k h = rw (get_or-eq_default s 0 h)
 
 pub record SoFar (b s : List ℕ) (fill : ℕ) : Type 0 where
   pub came : List ℕ

@@ -1,6 +1,5 @@
 -- Texts that are said.
-use Rattle.std.proofs.Common.{◌≡◌, ℕ, ◌+◌, ◌-◌, ◌<◌, ◌≤◌, leb, List, [], ◌∷◌, ◌++◌, length, get_or, take, drop, replicate, sym, refl, ◌∙◌, add-one, append_assoc, append-nil, le_refl, arith, take_all, take-suc, leb-false, leb-true}
-use lib.Seq.{drop-length}
+use Rattle.std.proofs.Common.{◌≡◌, ℕ, ◌+◌, ◌-◌, ◌<◌, ◌≤◌, leb, List, [], ◌∷◌, ◌++◌, length, get_or, take, drop, sym, refl, ◌∙◌, add-one, append_assoc, append-nil, le_refl, arith, take_all, take-suc, leb-false, leb-true}
 use Rattle.laws.proofs.Cases.{either}
 use Rattle.text.specs.Written.{Writes, pair_of, pairs_of, id_of}
 use Rattle.text.proofs.Written.{then, joined, keeps-length}
@@ -47,10 +46,6 @@ pub said_each : (s : List Said) (d : Said) (m i : ℕ) → 1 ≤ length s → le
 unfolding each_of
 said_each [] d m i l h k = absurd (omega arith)
 said_each (a ∷ s) d m i l h k = rw (take_all i (take m s) k, take_all m s (omega arith))
-
--- a buffer that was filled to its end
-pub filled : (d : List ℕ) (n : ℕ) → n ≡ length d → replicate n 0 ++ drop n d ≡ replicate (length d) 0
-filled d n e = rw (e, drop-length d, append-nil)
 
 -- what stands up to the place behind a line is what is left of it
 stands : (b line after : List ℕ) (n : ℕ) → Writes b 0 line after n → take n after ≡ take (length line) after

@@ -104,6 +104,7 @@ fn followed(name: u64, words: &[u8], bytes: &mut [u8]) -> Call
     }
 }
 
+// time, due and send differ in the call that they make; one function that takes it would be no shorter than they are.
 #[tactic(auto, using(laws::proofs::Branches::branches), unfolding(crate::specs::Calls::time_of))]
 fn time(words: &[u8]) -> Call
     ensures { result ≡ time_of (only_number words.now) }

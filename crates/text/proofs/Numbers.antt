@@ -38,9 +38,6 @@ same base m n (c ∷ s) b p q = rw (same base (m * base + digit_of c) (n * base 
 
 -- what the test before a further digit leaves room for
 module _ (base n d : ℕ) (b : 1 ≤ base) (h : n ≤ (18446744073709551615 - d) / base) where
-  pub product-fits : n * base < 2 ^ 64
-  product-fits = omega (arith, (le-div_iff_mul-le b).0 h)
-
   pub more-fits : d ≤ 18446744073709551615 → n * base + d < 2 ^ 64
   more-fits k = omega (arith, (le-div_iff_mul-le b).0 h)
 

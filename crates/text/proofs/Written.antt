@@ -77,9 +77,6 @@ whole b at s b' n i w h = rw (take_all i s h) at w
 pub one_more : (b : List ℕ) (at : ℕ) (s b' b'' : List ℕ) (n m i : ℕ) → Writes b at (take i s) b' n → i < length s → Writes b' n (get_or s i 0 ∷ []) b'' m → Writes b at (take (i + 1) s) b'' m
 one_more b at s b' b'' n m i w h v = rw (more s i h) (then w v)
 
-pub whole-pairs : (b : List ℕ) (at : ℕ) (s b' : List ℕ) (n i : ℕ) → Writes b at (pairs_of (take i s)) b' n → length s ≤ i → Writes b at (pairs_of s) b' n
-whole-pairs b at s b' n i w h = rw (take_all i s h) at w
-
 pub one-more-pair : (b : List ℕ) (at : ℕ) (s b' b'' : List ℕ) (n m i : ℕ) → Writes b at (pairs_of (take i s)) b' n → i < length s → Writes b' n (32 ∷ pair_of (get_or s i 0)) b'' m → Writes b at (pairs_of (take (i + 1) s)) b'' m
 one-more-pair b at s b' b'' n m i w h v = rw (more-pairs s i h) (then w v)
 

@@ -1,4 +1,5 @@
-// Characters, bytes and numbers into a lent text.
+// Characters, bytes and numbers into a lent text. Each writer takes the text and a place: of a struct that lends the text, what it
+// wrote is known of the caller's text only if every call promises that it lends the same one still.
 ghost use Rattle.std.specs.Prelude.{◌+◌, ◌/◌, ◌%◌, ◌≤◌, [], ◌∷◌, ◌≡◌, length, take};
 ghost use Rattle.text.specs.Digits.{IsDigitCount, IsPrefixLen, last_digits};
 ghost use Rattle.text.specs.Written.{Writes, if_given, glyph, pair_of, pairs_of, id_of, flags_of, decimal_of};
@@ -25,7 +26,7 @@ pub fn bytes(text: &mut [u8], at: usize, s: &[u8]) -> usize
     next
 }
 
-// Characters, where they are given.
+// Characters, where they are given. No option: callers have the flag, and the characters are a constant.
 pub fn bytes_if(text: &mut [u8], at: usize, given: bool, s: &[u8]) -> usize
     ensures { Writes text.old at (if_given given s.now) text.new result }
 {
