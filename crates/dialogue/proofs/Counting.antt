@@ -1,10 +1,9 @@
--- Numbers, word by word, and turns.
+-- Numbers, word by word.
 --     read, all-given          a word that was cut out, and eleven of them
 --     fits_byte, fits_word     what was read fits its setting
 --     is-refused               and what does not makes settings out of range
---     no_more                  turns never become more
 use Rattle.std.proofs.Common.{◌≡◌, ℕ, suc, ◌-◌, ◌≤◌, true, false, List, [], ◌∷◌, map, get_or, take, drop, replicate, refl, ◌∙◌, arith, w8, w16, Fits}
-use Rattle.laws.proofs.Cases.{by, by-lt}
+use Rattle.laws.proofs.Cases.{by-lt}
 use Rattle.profile.specs.Profile.{within, tp20, drive, comfort, high, low}
 use Rattle.profile.specs.declared.Profile.{Profile}
 use Rattle.settings.specs.Settings.{allowed_by}
@@ -15,9 +14,7 @@ use Rattle.text.specs.declared.reading.Number.{Number}
 use Rattle.text.specs.declared.reading.Number.TheVariants.{Value, TooLarge, Bad}
 use Rattle.text.specs.declared.reading.Span.{Span}
 use Rattle.dialogue.specs.declared.numbers.Numbers.{Numbers}
-use Rattle.dialogue.specs.declared.session.Session.{Session}
 use Rattle.dialogue.specs.Words.{word_at}
-use Rattle.dialogue.specs.Session.{turns_left}
 use Rattle.dialogue.specs.Numbers.{no_numbers, with_number, next_number, largest, after_words, out_of_range_if, given_by}
 
 pub read : (n : Numbers) (s p : List ℕ) (w : Span) (d : Number) (most : ℕ) (r : Numbers)
@@ -84,7 +81,3 @@ module _ (s : List ℕ) (n₀ n₁ n₂ n₃ n₄ n₅ n₆ n₇ n₈ n₉ n₁�
 pub is-refused : (s : Settings) → map (λ (p : Profile). allowed_by p (out_of_range_if true s)) (tp20 ∷ drive ∷ comfort ∷ high ∷ low ∷ []) ≡ replicate 5 false
 unfolding allowed_by within
 is-refused s = refl
-
-pub no_more : (s : Session) (n r : ℕ) → r ≡ turns_left s n → r ≤ n
-unfolding turns_left
-no_more s n r e = rw e (by (λ m. m ≤ n) s.ended (λ _. omega arith) (λ _. by (λ m. m ≤ n) s.output.failed (λ _. omega arith) (λ _. omega arith)))

@@ -1,5 +1,5 @@
 -- What is kept from line to line.
-use Rattle.std.specs.Prelude.{◌≡◌, ℕ, ◌+◌, ◌%◌, ◌^◌, Bool, ◌||◌, false, List, length, take, if◌then◌else◌}
+use Rattle.std.specs.Prelude.{◌≡◌, ℕ, ◌+◌, ◌%◌, ◌^◌, Bool, ◌||◌, false, List, length, take}
 use Rattle.std.proofs.lemmas.List.Edits.{sets}
 use Rattle.text.specs.Output.{Said, fresh}
 use Rattle.text.specs.declared.output.Output.{Output}
@@ -20,10 +20,6 @@ next_line s ended = record { room = s.room; length = s.length; lines = (s.lines 
 -- the input has ended, or the output takes no more
 abbrev pub is_over : Session → Bool
 is_over s = s.ended || s.output.failed
-
--- of so many turns, none is left when the input has ended or the output takes no more
-unfoldable pub turns_left : Session → ℕ → ℕ
-turns_left s turns = if s.ended then 0 else if s.output.failed then 0 else turns
 
 -- so many bytes are lent
 abbrev pub lending : Session → ℕ → Session

@@ -1,7 +1,7 @@
 // What is kept from line to line, beside the record and the lent buffers.
 ghost use Rattle.std.specs.Prelude.{◌≡◌, length, replicate};
 ghost use Rattle.dialogue.specs.Answers.{answer_of, answer_at, each_of, owner_of, contents_of, error_of, zero_line};
-ghost use Rattle.dialogue.specs.Session.{fresh_session, renewed, next_line, is_over, turns_left, lending, keeping, Says, Answers};
+ghost use Rattle.dialogue.specs.Session.{fresh_session, renewed, next_line, is_over, lending, keeping, Says, Answers};
 
 use crate::answers;
 use crate::answers::Carried;
@@ -46,25 +46,10 @@ impl Session {
     }
 
     // Whether the input has ended, or the output takes no more.
-    pub(crate) fn is_over(self) -> bool
+    pub fn is_over(self) -> bool
         ensures { result ≡ is_over self }
     {
         self.ended | self.output.failed
-    }
-
-    // Of so many turns, none is left when the input has ended or the output takes no more.
-    #[tactic(auto, using(laws::proofs::Branches::branches), unfolding(crate::specs::Session::turns_left))]
-    pub fn turns_left(self, turns: u64) -> u64
-        ensures { result ≡ turns_left self turns }
-    {
-        if self.ended {
-            return 0;
-        }
-        let output = self.output;
-        if output.failed {
-            return 0;
-        }
-        turns
     }
 
     // A message of this length was accepted.

@@ -54,12 +54,11 @@ fn talk<R: Input + Print + Eprint>(
     messages: &mut [u8],
 ) {
     let mut c = anew(Session::fresh());
-    let mut turns = u64::MAX;
-    while 0 < turns {
-        turns -= 1;
+    for _ in 0..u64::MAX {
         c = c.turn(rt, text, bytes, buffers, messages);
-        let session = c.session;
-        turns = session.turns_left(turns);
+        if c.session.is_over() {
+            return;
+        }
     }
 }
 

@@ -1,5 +1,0 @@
--- The turns run out.
-use Rattle.table_console.proofs.talk.Given as goal
-
-abbrev pub decreases-loop-turns : goal.decreases-loop-turns
-decreases-loop-turns g l = l.turns
