@@ -1,4 +1,4 @@
--- Numbers, word by word, and turns.
+-- Numbers, word by word.
 --     all-given                eleven words that were cut out
 --     fits_byte, fits_word     what was read fits its setting
 --     is-refused               and what does not makes settings out of range

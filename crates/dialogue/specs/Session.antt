@@ -1,5 +1,5 @@
 -- What is kept from line to line.
-use Rattle.std.specs.Prelude.{◌≡◌, ℕ, ◌+◌, ◌%◌, ◌^◌, Bool, ◌||◌, false, List, length, take, if◌then◌else◌}
+use Rattle.std.specs.Prelude.{◌≡◌, ℕ, ◌+◌, ◌%◌, ◌^◌, Bool, ◌||◌, false, List, length, take}
 use Rattle.std.proofs.lemmas.List.Edits.{sets}
 use Rattle.text.specs.Output.{Said, fresh}
 use Rattle.text.specs.declared.output.Output.{Output}
