@@ -107,7 +107,7 @@ impl Tester {
     }
 }
 
-// An answer that carries nothing.
+// An answer that carries nothing. It is no `From`, as neither type is this program's.
 fn answers(answered: Answered<Connection>) -> Reply<Tester>
     ensures { result ≡ answers answered }
 {

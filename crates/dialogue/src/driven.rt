@@ -12,8 +12,8 @@ use crate::words::behind_word;
 use open_end::shown;
 use text::writing;
 
-// What a call of a record answers, the length of a message that it shows in the lent buffer, else 0, and the record that it
-// leaves.
+// What a call of a record answers, the length of a message that it shows in the lent buffer, and the record that it leaves. No
+// message has length 0, so 0 is none, as in the records' own `take_step`.
 #[derive(Clone, Copy)]
 pub struct Reply<C> {
     pub carried: Carried,
@@ -59,7 +59,7 @@ pub trait Record: Copy {
         ensures { result ≡ calls.own self name words.now };
 }
 
-// What is lent to the calls, line by line.
+// What is lent to the calls, line by line: of fixed sizes, as there is no heap.
 #[derive(Drop)]
 struct Buffers {
     // A line, one character too many, and a CR behind it; its answer takes its place.
@@ -197,7 +197,7 @@ impl<C: Record> Console<C> {
         }
     }
 
-    // A message that is accepted is kept, to be lent from now on.
+    // A message that is accepted is kept, to be lent from now on: the number 0 of the protocol's table is done as asked.
     fn sending<R: Print + Eprint>(self, rt: &R, count: usize, lent: &mut Buffers) -> Console<C>
         ensures { (words : List ℕ) → Ran C.calls (SendCall count) words self lent.old result lent.new }
     {

@@ -103,7 +103,7 @@ impl Car {
     }
 }
 
-// An answer that carries nothing.
+// An answer that carries nothing. It is no `From`, as neither type is this program's.
 fn answers(answered: Answered<ControlUnit>) -> Reply<Car>
     ensures { result ≡ answers answered }
 {
