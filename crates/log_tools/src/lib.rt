@@ -1,5 +1,5 @@
-// What the tools that read a bus log share: the words that they are started with, the lines that they write, and what they say
-// of a word or a file that is no good.
+// What the tools that read a bus log share: the words that they are started with and the log that they name, the lines that they
+// write and the text in which those wait, and what they say of a word or a log that is no good.
 #![tactic(auto)]
 
 pub mod complaints;
