@@ -16,42 +16,6 @@ data-arrives : (limit : ℕ) (c : Channel) {t : Telegram} (p : List ℕ) (room :
 unfolding arrived
 data-arrives limit c p room r e k = rw (k, e)
 
-pub on_data-requires : goal.on_data-requires
-unfolding arrived buffered received
-on_data-requires c = search rules
-
-pub on_ack-requires : goal.on_ack-requires
-unfolding arrived buffered received
-on_ack-requires c = search rules
-
-pub on_test-requires : goal.on_test-requires
-unfolding arrived buffered received
-on_test-requires c = search rules
-
-pub on_break-requires : goal.on_break-requires
-unfolding arrived buffered received
-on_break-requires c = search rules
-
-pub answered-requires : goal.answered-requires
-unfolding arrived buffered received
-answered-requires c = search rules
-
-pub answered-requires-in-Setup : goal.answered-requires-in-Setup
-unfolding arrived buffered received
-answered-requires-in-Setup c = search rules
-
-pub on_accept-requires : goal.on_accept-requires
-unfolding arrived buffered received
-on_accept-requires c = search rules
-
-pub answered-requires-in-Malformed : goal.answered-requires-in-Malformed
-unfolding arrived buffered received
-answered-requires-in-Malformed c = search rules
-
-pub shape_of-buffer : goal.shape_of-buffer
-unfolding arrived buffered received
-shape_of-buffer c = search rules
-
 pub returns-in-Data : goal.returns-in-Data
 unfolding arrived buffered received
 returns-in-Data c = record { value = search data-arrives; buffer_after = search rules }

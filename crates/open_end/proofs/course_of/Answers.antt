@@ -1,11 +1,6 @@
 use borrow.Author.Tests.{eq-eqb, ne_eqb}
 use Rattle.open_end.specs.OpenEnd.{course_of}
-use borrow.Author.Rules.{rules}
 use Rattle.open_end.proofs.course_of.Goals as goal
-
-pub say-said-requires : goal.say-said-requires
-unfolding course_of
-say-said-requires c = search rules
 
 pub returns-then-number-eq8 : goal.returns-then-number-eq8
 unfolding course_of

@@ -1,16 +1,11 @@
 use mathlib.Core.Path.{sym}
 use borrow.Author.Tests.{ne_eqb}
 use Rattle.connection.specs.Record.{listens_on, hears}
-use borrow.Author.Rules.{rules}
 use Rattle.connection.proofs.Connection.hears.Goals as goal
 
 pub returns-then-phase-eq-CLOSED : goal.returns-then-phase-eq-CLOSED
 unfolding listens_on hears
 returns-then-phase-eq-CLOSED c = sym (rw c.if-phase-eq-CLOSED.true)
-
-pub answers_on-requires : goal.answers_on-requires
-unfolding listens_on hears
-answers_on-requires c = search rules
 
 pub returns-then-phase-eq-REQUESTING : goal.returns-then-phase-eq-REQUESTING
 unfolding listens_on hears

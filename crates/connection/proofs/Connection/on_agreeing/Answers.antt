@@ -1,42 +1,5 @@
 use Rattle.connection.specs.Calls.{on_agreeing}
-use borrow.Author.Rules.{rules}
 use Rattle.connection.proofs.Connection.on_agreeing.Goals as goal
-
-pub on_accept-requires : goal.on_accept-requires
-unfolding on_agreeing
-on_accept-requires c = search rules
-
-pub leaving_on-requires : goal.leaving_on-requires
-unfolding on_agreeing
-leaving_on-requires c = search rules
-
-pub gives-requires : goal.gives-requires
-unfolding on_agreeing
-gives-requires c = search rules
-
-pub gives-requires-in-Malformed : goal.gives-requires-in-Malformed
-unfolding on_agreeing
-gives-requires-in-Malformed c = search rules
-
-pub gives-requires-in-Data : goal.gives-requires-in-Data
-unfolding on_agreeing
-gives-requires-in-Data c = search rules
-
-pub gives-requires-in-Ack : goal.gives-requires-in-Ack
-unfolding on_agreeing
-gives-requires-in-Ack c = search rules
-
-pub gives-requires-in-Test : goal.gives-requires-in-Test
-unfolding on_agreeing
-gives-requires-in-Test c = search rules
-
-pub gives-requires-in-Break : goal.gives-requires-in-Break
-unfolding on_agreeing
-gives-requires-in-Break c = search rules
-
-pub gives-requires-in-Setup : goal.gives-requires-in-Setup
-unfolding on_agreeing
-gives-requires-in-Setup c = search rules
 
 pub returns-in-Accept : goal.returns-in-Accept
 unfolding on_agreeing

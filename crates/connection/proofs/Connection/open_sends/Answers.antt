@@ -1,14 +1,5 @@
 use Rattle.connection.specs.Calls.{open_sent}
-use borrow.Author.Rules.{rules}
 use Rattle.connection.proofs.Connection.open_sends.Goals as goal
-
-pub send-answer-requires : goal.send-answer-requires
-unfolding open_sent
-send-answer-requires c = search rules
-
-pub gives-requires : goal.gives-requires
-unfolding open_sent
-gives-requires c = search rules
 
 pub returns : goal.returns
 unfolding open_sent

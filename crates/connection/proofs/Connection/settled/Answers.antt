@@ -1,14 +1,5 @@
 use Rattle.connection.specs.Calls.{settled}
-use borrow.Author.Rules.{rules}
 use Rattle.connection.proofs.Connection.settled.Goals as goal
-
-pub closed-requires : goal.closed-requires
-unfolding settled
-closed-requires c = search rules
-
-pub leaving_on-requires : goal.leaving_on-requires
-unfolding settled
-leaving_on-requires c = search rules
 
 pub returns-in-GoesOn : goal.returns-in-GoesOn
 unfolding settled

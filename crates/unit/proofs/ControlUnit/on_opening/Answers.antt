@@ -1,42 +1,5 @@
 use Rattle.unit.specs.Calls.{on_opening}
-use borrow.Author.Rules.{rules}
 use Rattle.unit.proofs.ControlUnit.on_opening.Goals as goal
-
-pub on_setup-requires : goal.on_setup-requires
-unfolding on_opening
-on_setup-requires c = search rules
-
-pub leaving_of-requires : goal.leaving_of-requires
-unfolding on_opening
-leaving_of-requires c = search rules
-
-pub gives-requires : goal.gives-requires
-unfolding on_opening
-gives-requires c = search rules
-
-pub gives-requires-in-Malformed : goal.gives-requires-in-Malformed
-unfolding on_opening
-gives-requires-in-Malformed c = search rules
-
-pub gives-requires-in-Data : goal.gives-requires-in-Data
-unfolding on_opening
-gives-requires-in-Data c = search rules
-
-pub gives-requires-in-Ack : goal.gives-requires-in-Ack
-unfolding on_opening
-gives-requires-in-Ack c = search rules
-
-pub gives-requires-in-Test : goal.gives-requires-in-Test
-unfolding on_opening
-gives-requires-in-Test c = search rules
-
-pub gives-requires-in-Break : goal.gives-requires-in-Break
-unfolding on_opening
-gives-requires-in-Break c = search rules
-
-pub gives-requires-in-Accept : goal.gives-requires-in-Accept
-unfolding on_opening
-gives-requires-in-Accept c = search rules
 
 pub returns-in-Setup : goal.returns-in-Setup
 unfolding on_opening

@@ -1,14 +1,5 @@
 use Rattle.unit.specs.Calls.{open_taken}
-use borrow.Author.Rules.{rules}
 use Rattle.unit.proofs.ControlUnit.open_takes.Goals as goal
-
-pub take_step-answer-requires : goal.take_step-answer-requires
-unfolding open_taken
-take_step-answer-requires c = search rules
-
-pub shows-requires : goal.shows-requires
-unfolding open_taken
-shows-requires c = search rules
 
 pub returns : goal.returns
 unfolding open_taken

@@ -1,14 +1,5 @@
 use Rattle.unit.specs.Calls.{settled}
-use borrow.Author.Rules.{rules}
 use Rattle.unit.proofs.ControlUnit.settled.Goals as goal
-
-pub closed_of-requires : goal.closed_of-requires
-unfolding settled
-closed_of-requires c = search rules
-
-pub leaving_of-requires : goal.leaving_of-requires
-unfolding settled
-leaving_of-requires c = search rules
 
 pub returns-in-GoesOn : goal.returns-in-GoesOn
 unfolding settled
