@@ -27,7 +27,7 @@ pub struct Parameters {
     pub own: telegram::kinds::Parameters,
 }
 
-// The state of the tests. A timer at 0 does not run.
+// The state of the tests. A timer at 0 does not run. Each flag is a fact of its own.
 #[derive(Clone, Copy)]
 pub struct Tests {
     // What is left of the wait for an A1 (own T1).
@@ -80,7 +80,7 @@ pub enum Answer {
 }
 
 // What an answer says: its number in the protocol's table, whether it says that the message in sending is done, and whether
-// the peer has disconnected.
+// the peer has disconnected. The number is the table's own, which rows and programs name, so it is no enum.
 #[derive(Clone, Copy)]
 pub struct Said {
     pub number: u8,
@@ -103,7 +103,7 @@ pub struct Due {
     pub channel: Channel,
 }
 
-// A number of the table with nothing more to say.
+// A number of the table with nothing more to say: `open_end` says more of an answer, so its `plain` is of another type.
 fn plain(number: u8) -> Said
     ensures { result ≡ plain number }
 {

@@ -2,7 +2,7 @@
 ghost use Rattle.std.specs.Prelude.{◌≡◌};
 ghost use Rattle.connection.specs.Record.{no_attempt, new_attempt};
 
-// What is noted of it. A timer at 0 does not run.
+// What is noted of it. A timer at 0 does not run. Each flag is a fact of its own, and none says whether a value beside it counts.
 #[derive(Clone, Copy)]
 pub struct Attempt {
     // What is left of the wait for the reply (T_E).
@@ -15,7 +15,7 @@ pub struct Attempt {
     pub repeats: u8,
 }
 
-// No request of the opening is out or due.
+// No request of the opening is out or due. It differs from the next in one flag, and each is a word of the definitions.
 pub(crate) fn no_attempt() -> Attempt
     ensures { result ≡ no_attempt }
 {

@@ -24,7 +24,7 @@ pub(crate) struct Sent<'a> {
     pub(crate) frames: &'a [u8],
 }
 
-// A record, and what came and went.
+// A record, and what came and went. That of a table has other functions, so the two have no type in common.
 #[derive(Clone, Copy)]
 struct One {
     connection: Connection,

@@ -23,7 +23,7 @@ pub enum Answer {
 }
 
 // What an answer says: its number in the protocol's table, whether the message in sending is done, and the opcode of a
-// refusal, else 0.
+// refusal, else 0. The number is the table's own, which rows and programs name, so it is no enum.
 #[derive(Clone, Copy)]
 pub struct Said {
     pub number: u8,

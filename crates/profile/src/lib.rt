@@ -52,6 +52,7 @@ impl Range {
 }
 
 impl Profile {
+    // Each row is a value, and they differ in every number.
     pub const TP20: Profile = Profile {
         request: 0x200,
         reply: 0x200,
