@@ -319,7 +319,7 @@ fn repeats_end(channel: Channel, tenths: u64) -> bool {
 
 // A telegram arrives at an end.
 pub(crate) fn arrived(end: Channel, payload: Payload, buffer: &mut [u8]) -> Answered {
-    let telegram = reading::part(&payload.bytes, 0, payload.len);
+    let telegram = payload.as_slice();
     let kind = kinds::sort(telegram).kind;
     arrival::arrive(end, kind, reading::part(telegram, 1, 8), buffer)
 }

@@ -176,10 +176,7 @@ impl Bench {
         self.tell(d.answer);
         if let Some(payload) = d.payload {
             self.ends.forward = Some(payload);
-            put_pairs(
-                &mut self.line,
-                reading::part(&payload.bytes, 0, payload.len),
-            );
+            put_pairs(&mut self.line, payload.as_slice());
         }
     }
 

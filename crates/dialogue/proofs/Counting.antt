@@ -3,7 +3,7 @@
 --     fits_byte, fits_word     what was read fits its setting
 --     is-refused               and what does not makes settings out of range
 use Rattle.std.proofs.Common.{◌≡◌, ℕ, suc, ◌≤◌, true, false, List, [], ◌∷◌, map, get_or, replicate, refl, ◌∙◌, arith, w8, w16, Fits}
-use Rattle.laws.proofs.Cases.{by, by-lt}
+use Rattle.laws.proofs.Cases.{by-lt}
 use Rattle.profile.specs.Profile.{within, tp20, drive, comfort, high, low}
 use Rattle.profile.specs.declared.Profile.{Profile}
 use Rattle.settings.specs.Settings.{allowed_by}

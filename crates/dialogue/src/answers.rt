@@ -3,8 +3,8 @@ ghost use Rattle.std.specs.Prelude.{◌≡◌};
 ghost use Rattle.text.specs.Written.{Writes, if_given, pairs_of};
 ghost use Rattle.dialogue.specs.Answers.{marked, handing, showing, said_of, frame_text, given_text, carried_of, told_of, answer_of, place_text, answer_at, each_of, owner_of, error_of, contents_of};
 
+use open_end::Frame;
 use open_end::answers::Said;
-use open_end::{Frame, shown};
 use text::writing;
 
 // What an answer says, and what it carries: the mark of a padded telegram; a frame, if there is one; a message's flags, its
@@ -129,11 +129,9 @@ fn frame_if(text: &mut [u8], at: usize, frame: Option<Frame>) -> usize
 fn put_frame(text: &mut [u8], at: usize, frame: Frame) -> usize
     ensures { Writes text.old at (frame_text frame) text.new result }
 {
-    let payload = frame.payload;
-    let bytes = payload.bytes;
     let at = writing::byte(text, at, b' ');
     let at = writing::id(text, at, frame.id);
-    writing::pairs(text, at, shown(&bytes, payload.len))
+    writing::pairs(text, at, frame.payload.as_slice())
 }
 
 // What each of eight places answers, in one line.

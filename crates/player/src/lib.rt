@@ -108,8 +108,7 @@ impl Player {
         let Frame { id, payload } = frame;
         let mut name = [0; 3];
         let end = writing::id(&mut name, 0, id);
-        let data = payload.bytes;
-        self.print_line(rt, shown(&name, end), shown(&data, payload.len))
+        self.print_line(rt, shown(&name, end), payload.as_slice())
     }
 
     // No line for no message.

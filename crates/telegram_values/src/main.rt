@@ -197,7 +197,7 @@ fn reply(found: &mut Found, reply: Result<u16, ReplyError>) -> fmt::Result {
 }
 
 fn payload(found: &mut Found, payload: Payload) -> fmt::Result {
-    for b in reading::part(&payload.bytes, 0, payload.len) {
+    for b in payload.as_slice() {
         write!(found, " {b:02X}")?;
     }
     Ok(())
