@@ -164,7 +164,7 @@ impl Tally {
     ) -> Tally {
         self.messages = self.messages.wrapping_add(1);
         self.checksum = self.checksum.wrapping_add(sum(message));
-        if flags != 0 || !same(message, message_of(messages, unit)) {
+        if flags != 0 || message != message_of(messages, unit) {
             self.wrong = true;
         }
         self
@@ -186,10 +186,4 @@ fn sum(bytes: &[u8]) -> u64 {
         total = total.wrapping_add(u64::from(*b));
     }
     total
-}
-
-// Whether two messages are the same, every byte looked at: `==`, which stops at the first that differs, makes a round of `single`
-// two hundredths slower (docs/PERFORMANCE.md).
-fn same(a: &[u8], b: &[u8]) -> bool {
-    a.len() == b.len() && a.iter().zip(b).fold(true, |same, (x, y)| same & (x == y))
 }

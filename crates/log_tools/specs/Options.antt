@@ -15,6 +15,10 @@ use Rattle.log_tools.specs.declared.options.Options.{Options}
 abbrev pub is_option : List ℕ → Bool
 is_option w = starts_with eqb w (ascii "-")
 
+-- a place among the words, which are counted from 1; 0 is none
+abbrev pub place_of : ℕ → Option ℕ
+place_of place = if eqb place 0 then None else Some place
+
 -- no word taken
 abbrev pub fresh : (lists : Bool) → Options
 fresh lists = record { lists = lists; room = None; chunk = None; places = None; awaits = None; file = None; wrong = None }
@@ -56,8 +60,8 @@ numbered o Chunk n = record o { chunk = Some n; awaits = None }
 numbered o Places n = record o { places = Some n; awaits = None }
 
 -- the file is named
-abbrev pub named : Options → (place : ℕ) → Options
-named o place = record o { file = Some place }
+abbrev pub named : Options → (place : Option ℕ) → Options
+named o place = record o { file = place }
 
 -- the option of a name; that of places for a tool that makes a list
 unfoldable pub option_named : (lists : Bool) → (word : List ℕ) → Option Name
@@ -68,30 +72,30 @@ option_named lists w =
     else None
 
 -- the number of an option, if it takes that
-unfoldable pub on_number : Options → Name → (place : ℕ) → Result ℕ NumberError → Options
-on_number o option place (Ok n) = if takes option n then numbered o option n else refused o (NoNumber option) (Some place)
-on_number o option place (Err e) = refused o (NoNumber option) (Some place)
+unfoldable pub on_number : Options → Name → (place : Option ℕ) → Result ℕ NumberError → Options
+on_number o option place (Ok n) = if takes option n then numbered o option n else refused o (NoNumber option) place
+on_number o option place (Err e) = refused o (NoNumber option) place
 
 -- each option at most once
-unfoldable pub on_option : Options → (place : ℕ) → Option Name → Options
-on_option o place None = refused o NoOption (Some place)
-on_option o place (Some option) = if is_some (given o option) then refused o Twice (Some place) else awaiting o option
+unfoldable pub on_option : Options → (place : Option ℕ) → Option Name → Options
+on_option o place None = refused o NoOption place
+on_option o place (Some option) = if is_some (given o option) then refused o Twice place else awaiting o option
 
 -- a word that is no number of an option
-abbrev pub free_taken : Options → (place : ℕ) → (word : List ℕ) → Options
+abbrev pub free_taken : Options → (place : Option ℕ) → (word : List ℕ) → Options
 free_taken o place w =
-    if is_some o.file then refused o SecondFile (Some place)
+    if is_some o.file then refused o SecondFile place
     else if is_option w then on_option o place (option_named o.lists w)
     else named o place
 
 -- a word where no word was wrong, with the option whose number comes next
-unfoldable pub next_taken : Options → (awaited : Option Name) → (place : ℕ) → (word : List ℕ) → Options
+unfoldable pub next_taken : Options → (awaited : Option Name) → (place : Option ℕ) → (word : List ℕ) → Options
 next_taken o None place w = free_taken o place w
 next_taken o (Some option) place w = on_number o option place (number_of 10 w)
 
 -- the word at a place, behind those taken; the first that is wrong stays told
 unfoldable pub word_taken : Options → (place : ℕ) → (word : List ℕ) → Options
-word_taken o place w = if is_some o.wrong then o else next_taken o o.awaits place w
+word_taken o place w = if is_some o.wrong then o else next_taken o o.awaits (place_of place) w
 
 -- a number that was to come is missing
 unfoldable pub number_missing : Options → (awaited : Option Name) → Options

@@ -2,7 +2,7 @@
 // list; options in any order before the file, each at most once. They are taken one by one; the first that is wrong is kept,
 // with what is wrong about it.
 ghost use Rattle.std.specs.Prelude.{◌≡◌, take};
-ghost use Rattle.log_tools.specs.Options.{is_option, fresh, takes, default_of, given, number_for, refused, awaiting, numbered, named, option_named, on_number, on_option, word_taken, held_taken, words_ended};
+ghost use Rattle.log_tools.specs.Options.{place_of, is_option, fresh, takes, default_of, given, number_for, refused, awaiting, numbered, named, option_named, on_number, on_option, word_taken, held_taken, words_ended};
 
 use telegram::cutting::LONGEST;
 use text::reading::{NumberError, decimal, part};
@@ -59,6 +59,13 @@ pub fn lend<T>(buffer: &mut [T], length: usize) -> &mut [T]
 {
     let end = length.min(buffer.len());
     &mut buffer[..end]
+}
+
+// A place among the words, which are counted from 1; 0 is none.
+fn place_of(place: usize) -> Option<usize>
+    ensures { result ≡ place_of place }
+{
+    if place == 0 { None } else { Some(place) }
 }
 
 fn is_option(word: &[u8]) -> bool
@@ -140,11 +147,12 @@ impl Options {
         if self.wrong.is_some() {
             return self;
         }
+        let place = place_of(place);
         if let Some(option) = self.awaits {
             return self.on_number(option, place, decimal(word));
         }
         if self.file.is_some() {
-            return self.refused(Fault::SecondFile, Some(place));
+            return self.refused(Fault::SecondFile, place);
         }
         if is_option(word) {
             return self.on_option(place, option_named(self.lists, word));
@@ -197,11 +205,11 @@ impl Options {
         }
     }
 
-    fn named(self, place: usize) -> Options
+    fn named(self, place: Option<usize>) -> Options
         ensures { result ≡ named self place }
     {
         Options {
-            file: Some(place),
+            file: place,
             ..self
         }
     }
@@ -220,24 +228,29 @@ impl Options {
     }
 
     #[tactic(auto, using(laws::proofs::Branches::branches), unfolding(crate::specs::Options::on_number))]
-    fn on_number(self, option: Name, place: usize, number: Result<u64, NumberError>) -> Options
+    fn on_number(
+        self,
+        option: Name,
+        place: Option<usize>,
+        number: Result<u64, NumberError>,
+    ) -> Options
         ensures { result ≡ on_number self option place number }
     {
         match number {
             Ok(n) if option.takes(n) => self.numbered(option, n as usize),
-            _ => self.refused(Fault::NoNumber(option), Some(place)),
+            _ => self.refused(Fault::NoNumber(option), place),
         }
     }
 
     #[tactic(auto, using(laws::proofs::Branches::branches), unfolding(crate::specs::Options::on_option))]
-    fn on_option(self, place: usize, option: Option<Name>) -> Options
+    fn on_option(self, place: Option<usize>, option: Option<Name>) -> Options
         ensures { result ≡ on_option self place option }
     {
         let Some(option) = option else {
-            return self.refused(Fault::NoOption, Some(place));
+            return self.refused(Fault::NoOption, place);
         };
         if self.given(option).is_some() {
-            return self.refused(Fault::Twice, Some(place));
+            return self.refused(Fault::Twice, place);
         }
         Options {
             awaits: Some(option),

@@ -26,8 +26,8 @@ pub struct Standing {
     pub begun: Message,
 }
 
-// An Ack that is due, fixed when it became due. A flag and no option, since it is promised too that nothing is left of an Ack that
-// was handed over (`ack_handed`).
+// An Ack that is due, fixed when it became due. A flag and no option, since every call is promised of a record that has
+// a number beside a flag that is off, and `reachable` bounds that number too (`Receives`).
 #[derive(Clone, Copy)]
 pub struct AckDue {
     pub due: bool,

@@ -64,7 +64,7 @@ pub struct Offered {
     pub sender: Sender,
 }
 
-// What an Ack did. No result: four outcomes and two refusals, each with an answer of its own in `arrival`.
+// What an Ack did. No result: what it did to the sending has four names of its own, and beside them are two refusals.
 #[derive(Clone, Copy)]
 pub enum Hearing {
     // It acknowledged some frames, and the message goes on.
@@ -103,8 +103,7 @@ pub struct Passed {
     pub sender: Sender,
 }
 
-// What a call for a frame found. It is no `Result<Option<Payload>, _>`: each of the three has its own name, and so one match
-// tells them apart.
+// What a call for a frame found. It is no `Result<Option<Payload>, _>`, which would say the same three things without their names.
 #[derive(Clone, Copy)]
 pub enum Handing {
     Frame(Payload),
