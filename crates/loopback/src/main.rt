@@ -172,7 +172,7 @@ fn run(start: Ends, message: &[u8], buffer: &mut [u8]) -> Ends {
         let Some(frame) = d.frame else {
             return ends;
         };
-        let bytes = shown(&frame.payload.bytes, frame.payload.len);
+        let bytes = frame.payload.as_slice();
         let r = ends.to.arrive(frame.id, bytes, buffer);
         ends.to = r.left;
         if ends.to.phase != OPEN {
