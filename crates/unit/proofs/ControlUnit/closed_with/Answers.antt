@@ -1,4 +1,0 @@
-use Rattle.unit.proofs.ControlUnit.closed_with.Goals as goal
-
-pub returns : goal.returns
-returns c = rw c.unopened.ensures
