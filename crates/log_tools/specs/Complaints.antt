@@ -1,11 +1,11 @@
 -- What a tool says on standard error of a word that is wrong, and of a log that cannot be opened or read.
-use Rattle.std.specs.Prelude.{ℕ, ◌||◌, List, [], ◌∷◌, ◌++◌, length, ltb, eqb, if◌then◌else◌, Option, None, Some}
+use Rattle.std.specs.Prelude.{ℕ, ◌||◌, List, [], ◌∷◌, ◌++◌, length, ltb, eqb, if◌then◌else◌, Option, unwrap_or}
 use Rattle.laws.specs.Characters.{ascii}
 use Rattle.text.specs.Written.{Writes, decimal_of}
 use Rattle.log_tools.specs.Failures.{error_text}
 use Rattle.log_tools.specs.declared.options.Name.TheVariants.{Room, Chunk, Places}
 use Rattle.log_tools.specs.declared.options.Fault.{Fault}
-use Rattle.log_tools.specs.declared.options.Fault.TheVariants.{NoOption, Twice, NoNumber, SecondFile}
+use Rattle.log_tools.specs.declared.options.Fault.TheVariants.{NoOption, Twice, NoNumber, SecondFile, Other}
 use Rattle.log_tools.specs.declared.options.Wrong.{Wrong}
 
 -- what would end or spoil a line is shown as `?`
@@ -20,10 +20,9 @@ plain_of (c ∷ s) = shown_as c ∷ plain_of s
 unfoldable pub shown_word : (place : ℕ) → List ℕ → List ℕ
 shown_word place w = if eqb (length w) 0 then ascii "word " ++ decimal_of place else plain_of w
 
--- the word at a place, or that there is none
+-- the word at a place, or that there is none; a place 0 is none too
 unfoldable pub word_at : (place : Option ℕ) → List ℕ → List ℕ
-word_at None w = ascii "none is given"
-word_at (Some place) w = shown_word place w
+word_at place w = if eqb (unwrap_or place 0) 0 then ascii "none is given" else shown_word (unwrap_or place 0) w
 
 -- what is wrong
 unfoldable pub fault_text : Fault → List ℕ
@@ -33,6 +32,7 @@ fault_text (NoNumber Places) = ascii "--places wants a number from 0 to 4096: "
 fault_text Twice = ascii "given twice: "
 fault_text SecondFile = ascii "one file at most, and nothing behind it: "
 fault_text NoOption = ascii "no such option: "
+fault_text (Other n) = ascii "no such option: "
 
 -- the tool's name, before what it says
 abbrev pub title_of : (tool : List ℕ) → List ℕ

@@ -2,7 +2,7 @@
 // list; options in any order before the file, each at most once. They are taken one by one; the first that is wrong is kept,
 // with what is wrong about it.
 ghost use Rattle.std.specs.Prelude.{◌≡◌, take};
-ghost use Rattle.log_tools.specs.Options.{place_of, is_option, fresh, takes, default_of, given, number_for, refused, awaiting, numbered, named, option_named, on_number, on_option, word_taken, held_taken, words_ended};
+ghost use Rattle.log_tools.specs.Options.{place_of, is_option, fresh, takes, default_of, unset, setting, number_for, refused, awaiting, numbered, named, option_named, on_number, on_option, word_taken, held_taken, words_ended};
 
 use telegram::cutting::LONGEST;
 use text::reading::{NumberError, decimal, part};
@@ -27,26 +27,43 @@ pub enum Fault {
     NoNumber(Name),
     // A word behind the file.
     SecondFile,
+    // A caller's own number, which names none of these: told as no such option.
+    Other(u8),
 }
 
-// What is wrong, and the place of the word that is; None where a word is missing.
+// What is wrong, and the place of the word that is; None, or 0, where a word is missing.
 #[derive(Clone, Copy)]
 pub struct Wrong {
     pub fault: Fault,
     pub place: Option<usize>,
 }
 
-// What the words came to.
+// An option's number, and whether a word gave it. No Option: the number stands where none is given, and a caller may set another.
+#[derive(Clone, Copy)]
+pub struct Setting {
+    pub number: usize,
+    pub given: bool,
+}
+
+// What comes next.
+#[derive(Clone, Copy)]
+pub enum Awaited {
+    // The number of an option.
+    Number(Name),
+    // A caller's own number, which names no option: a word as ever, but for one that fills its buffer.
+    Other(u8),
+}
+
+// What the words came to. Every call is promised for every such record, whatever a caller put there.
 #[derive(Clone, Copy)]
 pub struct Options {
     // Whether the tool makes a list, and so has the option of its places.
     pub lists: bool,
-    // The numbers given.
-    pub room: Option<usize>,
-    pub chunk: Option<usize>,
-    pub places: Option<usize>,
-    // The option whose number comes next.
-    pub awaits: Option<Name>,
+    pub room: Setting,
+    pub chunk: Setting,
+    pub places: Setting,
+    // What comes next, if it is not any word.
+    pub awaits: Option<Awaited>,
     // The place of the file's name among the words.
     pub file: Option<usize>,
     // The first word that is wrong.
@@ -114,6 +131,16 @@ impl Name {
             Name::Places => 4096,
         }
     }
+
+    // The option where no number is given.
+    fn unset(self) -> Setting
+        ensures { result ≡ unset self }
+    {
+        Setting {
+            number: self.default(),
+            given: false,
+        }
+    }
 }
 
 impl Options {
@@ -123,9 +150,9 @@ impl Options {
     {
         Options {
             lists,
-            room: None,
-            chunk: None,
-            places: None,
+            room: Name::Room.unset(),
+            chunk: Name::Chunk.unset(),
+            places: Name::Places.unset(),
             awaits: None,
             file: None,
             wrong: None,
@@ -136,7 +163,7 @@ impl Options {
     pub fn number(self, option: Name) -> usize
         ensures { result ≡ number_for self option }
     {
-        self.given(option).unwrap_or(option.default())
+        self.setting(option).number
     }
 
     // The word at a place, from 1, behind those taken.
@@ -148,7 +175,7 @@ impl Options {
             return self;
         }
         let place = place_of(place);
-        if let Some(option) = self.awaits {
+        if let Some(Awaited::Number(option)) = self.awaits {
             return self.on_number(option, place, decimal(word));
         }
         if self.file.is_some() {
@@ -179,15 +206,15 @@ impl Options {
         if self.wrong.is_some() {
             return self;
         }
-        let Some(option) = self.awaits else {
+        let Some(Awaited::Number(option)) = self.awaits else {
             return self;
         };
         self.refused(Fault::NoNumber(option), None)
     }
 
-    #[tactic(auto, unfolding(crate::specs::Options::given))]
-    fn given(self, option: Name) -> Option<usize>
-        ensures { result ≡ given self option }
+    #[tactic(auto, unfolding(crate::specs::Options::setting))]
+    fn setting(self, option: Name) -> Setting
+        ensures { result ≡ setting self option }
     {
         match option {
             Name::Room => self.room,
@@ -218,11 +245,15 @@ impl Options {
     fn numbered(mut self, option: Name, n: usize) -> Options
         ensures { result ≡ numbered self option n }
     {
+        let setting = Setting {
+            number: n,
+            given: true,
+        };
         self.awaits = None;
         match option {
-            Name::Room => self.room = Some(n),
-            Name::Chunk => self.chunk = Some(n),
-            Name::Places => self.places = Some(n),
+            Name::Room => self.room = setting,
+            Name::Chunk => self.chunk = setting,
+            Name::Places => self.places = setting,
         }
         self
     }
@@ -249,11 +280,11 @@ impl Options {
         let Some(option) = option else {
             return self.refused(Fault::NoOption, place);
         };
-        if self.given(option).is_some() {
+        if self.setting(option).given {
             return self.refused(Fault::Twice, place);
         }
         Options {
-            awaits: Some(option),
+            awaits: Some(Awaited::Number(option)),
             ..self
         }
     }
