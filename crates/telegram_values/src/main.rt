@@ -14,8 +14,6 @@
 #![tactic(auto)]
 
 use opening::{ReplyError, Request};
-use std::fmt;
-use std::fmt::Write;
 use telegram::cutting::Message;
 use telegram::kinds::{Parameters, Sorted, Telegram};
 use telegram::payload::Payload;
@@ -23,9 +21,9 @@ use telegram::{cutting, kinds, time};
 use text::input::read_full;
 use text::line::Line;
 use text::output::Output;
-use text::reading;
+use text::{reading, writing};
 
-// What is said of a value.
+// What is said of a value. Its numbers are written by `writing` and not by `write!`, which took up to four times as long.
 type Found = Line<256>;
 
 fn main(rt: HostRuntime) {
@@ -37,15 +35,16 @@ fn main(rt: HostRuntime) {
 // Answers line by line, until one cannot be written.
 fn lines<R: Print + Eprint>(rt: &R, text: &[u8]) {
     let mut output = Output::fresh();
+    let mut found = Found::default();
     for text in text.split(|c| *c == b'\n') {
-        output = line(rt, output, text);
+        output = line(rt, output, &mut found, text);
         if output.failed {
             return;
         }
     }
 }
 
-fn line<R: Print + Eprint>(rt: &R, output: Output, text: &[u8]) -> Output {
+fn line<R: Print + Eprint>(rt: &R, output: Output, found: &mut Found, text: &[u8]) -> Output {
     let Some(colon) = text.iter().position(|c| *c == b':') else {
         return output;
     };
@@ -53,23 +52,24 @@ fn line<R: Print + Eprint>(rt: &R, output: Output, text: &[u8]) -> Output {
         return output;
     }
     let rest = colon + 1;
-    let mut found = Found::default();
+    found.len = 0;
     found.put(&text[2..rest]);
-    let _ = run(&mut found, text[0], &text[rest..]);
+    run(found, text[0], &text[rest..]);
     found.put(b"\n");
     output.say(rt, found.text())
 }
 
 // Runs a value of pairs of digits.
-fn run(found: &mut Found, what: u8, pairs: &[u8]) -> fmt::Result {
+fn run(found: &mut Found, what: u8, pairs: &[u8]) {
     let mut value = [0u8; 32];
     let Ok(n) = reading::pairs(pairs, &mut value) else {
-        return write!(found, " no bytes");
+        found.put(b" no bytes");
+        return;
     };
-    find(found, what, reading::part(&value, 0, n))
+    find(found, what, reading::part(&value, 0, n));
 }
 
-fn find(found: &mut Found, what: u8, s: &[u8]) -> fmt::Result {
+fn find(found: &mut Found, what: u8, s: &[u8]) {
     match what {
         b't' => number(found, time::tenths(byte_at(s, 0)) as u64),
         b'm' => number(found, cutting::limit() as u64),
@@ -122,83 +122,109 @@ fn write(s: &[u8]) -> Payload {
     }
 }
 
-fn number(found: &mut Found, n: u64) -> fmt::Result {
-    write!(found, " {n}")
+fn number(found: &mut Found, n: u64) {
+    found.put(b" ");
+    found.len = writing::decimal(&mut found.text, found.len, n);
 }
 
-fn declared(found: &mut Found, message: Message) -> fmt::Result {
+fn byte(found: &mut Found, b: u8) {
+    found.put(b" ");
+    found.len = writing::pair(&mut found.text, found.len, b);
+}
+
+fn id(found: &mut Found, i: u16) {
+    found.put(b" ");
+    found.len = writing::id(&mut found.text, found.len, i);
+}
+
+fn declared(found: &mut Found, message: Message) {
     let Message { length, flags } = message;
-    write!(found, " {length}")?;
-    match flags % 16 {
-        0 => Ok(()),
-        flags => write!(found, " flags {flags:X}"),
-    }
+    number(found, length as u64);
+    found.len = writing::flags(&mut found.text, found.len, (flags % 16) as u8);
 }
 
-fn sorted(found: &mut Found, sorted: Sorted) -> fmt::Result {
-    kind(found, sorted.kind)?;
+fn sorted(found: &mut Found, sorted: Sorted) {
+    kind(found, sorted.kind);
     if sorted.padded {
-        write!(found, ", padded")?;
+        found.put(b", padded");
     }
-    Ok(())
 }
 
-fn kind(found: &mut Found, kind: Telegram) -> fmt::Result {
+fn kind(found: &mut Found, kind: Telegram) {
     match kind {
-        Telegram::Data { asks, last, number } => {
-            write!(found, " data, number {number}")?;
+        Telegram::Data {
+            asks,
+            last,
+            number: n,
+        } => {
+            found.put(b" data, number");
+            number(found, n as u64);
             if asks {
-                write!(found, ", asks for an Ack")?;
+                found.put(b", asks for an Ack");
             }
             if last {
-                write!(found, ", last")?;
+                found.put(b", last");
             }
-            Ok(())
         }
-        Telegram::Ack { ready, number } => {
-            write!(found, " Ack, number {number}")?;
-            write!(found, "{}", if ready { ", ready" } else { ", not ready" })
+        Telegram::Ack { ready, number: n } => {
+            found.put(b" Ack, number");
+            number(found, n as u64);
+            if ready {
+                found.put(b", ready");
+            } else {
+                found.put(b", not ready");
+            }
         }
-        Telegram::Test => write!(found, " test"),
-        Telegram::Break => write!(found, " break"),
-        Telegram::Disconnect => write!(found, " disconnect"),
+        Telegram::Test => found.put(b" test"),
+        Telegram::Break => found.put(b" break"),
+        Telegram::Disconnect => found.put(b" disconnect"),
         Telegram::Setup(p) => {
-            write!(found, " set-up")?;
-            parameters(found, p)
+            found.put(b" set-up");
+            parameters(found, p);
         }
         Telegram::Accept(p) => {
-            write!(found, " acceptance")?;
-            parameters(found, p)
+            found.put(b" acceptance");
+            parameters(found, p);
         }
-        Telegram::Malformed => write!(found, " malformed"),
+        Telegram::Malformed => found.put(b" malformed"),
     }
 }
 
-fn parameters(found: &mut Found, parameters: Parameters) -> fmt::Result {
+fn parameters(found: &mut Found, parameters: Parameters) {
     let Parameters { block, t1, t3 } = parameters;
-    write!(found, ", block size {block}, T1 {t1:02X}, T3 {t3:02X}")
+    found.put(b", block size");
+    number(found, block as u64);
+    found.put(b", T1");
+    byte(found, t1);
+    found.put(b", T3");
+    byte(found, t3);
 }
 
-fn request(found: &mut Found, request: Option<Request>) -> fmt::Result {
-    match request {
-        Some(Request { unit, receive }) => {
-            write!(found, " unit {unit:02X}, receive ID {receive:03X}")
-        }
-        None => write!(found, " malformed"),
-    }
+fn request(found: &mut Found, request: Option<Request>) {
+    let Some(Request { unit, receive }) = request else {
+        found.put(b" malformed");
+        return;
+    };
+    found.put(b" unit");
+    byte(found, unit);
+    found.put(b", receive ID");
+    id(found, receive);
 }
 
-fn reply(found: &mut Found, reply: Result<u16, ReplyError>) -> fmt::Result {
+fn reply(found: &mut Found, reply: Result<u16, ReplyError>) {
     match reply {
-        Ok(transmit) => write!(found, " positive, transmit ID {transmit:03X}"),
-        Err(ReplyError::Refused(opcode)) => write!(found, " refused by {opcode:02X}"),
-        Err(ReplyError::Malformed) => write!(found, " malformed"),
+        Ok(transmit) => {
+            found.put(b" positive, transmit ID");
+            id(found, transmit);
+        }
+        Err(ReplyError::Refused(opcode)) => {
+            found.put(b" refused by");
+            byte(found, opcode);
+        }
+        Err(ReplyError::Malformed) => found.put(b" malformed"),
     }
 }
 
-fn payload(found: &mut Found, payload: Payload) -> fmt::Result {
-    for b in payload.as_slice() {
-        write!(found, " {b:02X}")?;
-    }
-    Ok(())
+fn payload(found: &mut Found, payload: Payload) {
+    found.len = writing::pairs(&mut found.text, found.len, payload.as_slice());
 }
