@@ -1,6 +1,6 @@
 // Replays the exchange of source 004: opens a channel to the engine control unit, starts a session, reads one block of
-// measuring values, and closes. It prints each frame that it hands over and each message that it takes, and nothing more once
-// that cannot be written.
+// measuring values, and closes. It prints each frame that it hands over and each message that it takes, and stops where that
+// cannot be written.
 #![tactic(auto)]
 
 use connection::Connection;
@@ -46,10 +46,13 @@ fn main(rt: HostRuntime) {
         .hand_over(&rt, &[]);
 }
 
-// Plays the entries of an exchange, and lets the time between two pass behind each.
+// Plays the entries of an exchange, and lets the time between two pass behind each; an output that failed ends it.
 fn play<R: Print + Eprint>(rt: &R, begun: Player, exchange: &[Entry], buffer: &mut [u8]) -> Player {
     let mut p = begun;
     for entry in exchange {
+        if p.output.failed {
+            return p;
+        }
         p = match *entry {
             Entry::Arrives(id, bytes) => p.arrive(rt, id, bytes, buffer).wait(rt, PAUSE, &[]),
             Entry::Sent(message) => p.send(message).wait(rt, PAUSE, message),
