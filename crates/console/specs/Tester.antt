@@ -59,6 +59,7 @@ tester_calls = record {
   elapsed = λ t n. answers (connection.elapsed t.connection n);
   due = λ t s. hands (connection.due_of t.connection s);
   sent = λ t s. answers (connection.sent_by longest t.connection (length s));
+  accepted = λ number. number == 0;
   taken = λ t room. takes (connection.taken_by t.connection room);
   close = λ t. answers (connection.closed t.connection);
   own = own_of;

@@ -1,5 +1,5 @@
 -- One record driven by hand: what becomes of it, call by call and line by line.
-use Rattle.std.specs.Prelude.{◌≡◌, ◌==◌, ℕ, ◌+◌, ◌-◌, ◌^◌, ◌<◌, min, Bool, true, List, ◌++◌, length, take, drop, replicate, Option, Some, None, if◌then◌else◌}
+use Rattle.std.specs.Prelude.{◌≡◌, ℕ, ◌+◌, ◌-◌, ◌^◌, ◌<◌, min, Bool, true, List, ◌++◌, length, take, drop, replicate, Option, Some, None, if◌then◌else◌}
 use Rattle.std.proofs.lemmas.List.Edits.{sets}
 use Rattle.text.specs.Written.{place_after}
 use Rattle.dialogue.specs.Words.{behind_word}
@@ -20,6 +20,7 @@ pub record Calls (C : Type 0) : Type 0 where
   pub elapsed : C → (tenths : ℕ) → Reply C
   pub due : C → (message : List ℕ) → Reply C
   pub sent : C → (message : List ℕ) → Reply C
+  pub accepted : (number : ℕ) → Bool
   pub taken : C → (room : ℕ) → Reply C
   pub close : C → Reply C
   pub own : C → (name : ℕ) → (words : List ℕ) → Option (Reply C)
@@ -68,7 +69,7 @@ module _ {C : Type 0} (calls : Calls C) where
 
   -- a message of n bytes of the line is accepted
   abbrev pub accepts : ℕ → Console C → Buffers → Bool
-  accepts n c b = (calls.sent c.driven (take n b.bytes)).carried.said.number == 0
+  accepts n c b = calls.accepted (calls.sent c.driven (take n b.bytes)).carried.said.number
 
   -- the buffer that a call leaves: a frame may write to what is lent of it
   abbrev pub buffer_left : Call → Console C → Buffers → List ℕ

@@ -47,6 +47,10 @@ pub trait Record: Copy {
     fn send(self, message: &[u8]) -> Reply<Self>
         ensures { result ≡ calls.sent self message.now };
 
+    // Whether the number of a send's answer says that the message was accepted.
+    fn accepted(number: u8) -> bool
+        ensures { result ≡ calls.accepted number };
+
     // What taking a message comes to, in a lent buffer of room bytes.
     fn take(self, room: usize) -> Reply<Self>
         ensures { result ≡ calls.taken self room };
@@ -197,14 +201,14 @@ impl<C: Record> Console<C> {
         }
     }
 
-    // A message that is accepted is kept, to be lent from now on: the number 0 of the protocol's table is done as asked.
+    // A message that is accepted is kept, to be lent from now on.
     fn sending<R: Print + Eprint>(self, rt: &R, count: usize, lent: &mut Buffers) -> Console<C>
         ensures { (words : List ℕ) → Ran C.calls (SendCall count) words self lent.old result lent.new }
     {
         let Console { driven, session } = self;
         let message = shown(&lent.bytes, count);
         let sent = driven.send(message);
-        if sent.carried.said.number != 0 {
+        if !C::accepted(sent.carried.said.number) {
             return sent.tell(rt, session, lent);
         }
         let length = writing::bytes(&mut lent.message, 0, message);

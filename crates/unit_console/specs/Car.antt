@@ -54,6 +54,7 @@ car_calls = record {
   elapsed = λ c n. answers (unit.elapsed c.unit n);
   due = λ c s. hands (unit.due_of c.unit s);
   sent = λ c s. answers (unit.sent_by longest c.unit (length s));
+  accepted = λ number. number == 0;
   taken = λ c room. takes (unit.taken_by c.unit room);
   close = λ c. answers (unit.closed c.unit);
   own = own_of;
