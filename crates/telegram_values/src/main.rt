@@ -23,7 +23,7 @@ use text::line::Line;
 use text::output::Output;
 use text::{reading, writing};
 
-// What is said of a value. Its numbers are written by `writing` and not by `write!`, which took up to four times as long.
+// What is said of a value. Its numbers are written by `writing`: with `write!` a run took up to twice as long.
 type Found = Line<256>;
 
 fn main(rt: HostRuntime) {
