@@ -172,7 +172,7 @@ fn run(start: Ends, message: &[u8], buffer: &mut [u8]) -> Ends {
         let Some(frame) = d.frame else {
             return ends;
         };
-        // Copied first: through the payload's own slice a frame takes a tenth longer.
+        // Copied first: through the payload's own slice a frame takes some hundredths longer.
         let bytes = frame.payload.bytes;
         let bytes = shown(&bytes, frame.payload.len);
         let r = ends.to.arrive(frame.id, bytes, buffer);
